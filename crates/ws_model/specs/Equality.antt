@@ -1,5 +1,4 @@
 -- Comparing lists of bytes.
-use Rattle.std.specs.Prelude.{ℕ, List}
 use Rattle.std.specs.Str.{bytes_eq}
 use Rattle.std.specs.Cmp.{IsPartialEquivalence}
 use Rattle.std.specs.Cmp.Rules.{comparing}

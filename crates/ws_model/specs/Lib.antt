@@ -1,2 +1,11 @@
+pub mod Account
+pub mod Due
 pub mod Equality
+pub mod Fate
+pub mod History
+pub mod Intents
 pub mod Key
+pub mod Leases
+pub mod Moment
+pub mod Pairs
+pub mod Versions

@@ -1,0 +1,4 @@
+pub mod Cause
+pub mod Pieces
+pub mod Memory
+pub mod StatusCode

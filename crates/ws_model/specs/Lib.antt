@@ -1,4 +1,5 @@
 pub mod Account
+pub mod Asks
 pub mod Due
 pub mod Equality
 pub mod Fate

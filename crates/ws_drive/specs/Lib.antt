@@ -1,0 +1,10 @@
+pub mod Script
+pub mod AccountText
+pub mod World
+pub mod Moves
+pub mod Reading
+pub mod Desk
+pub mod Session
+pub mod Stop
+pub mod Steps
+pub mod Runs

@@ -1,0 +1,117 @@
+// The owner of the history.
+ghost use Rattle.std.specs.Prelude.{◌≡◌, ◌≤◌, ◌<◌, ◌^◌, ◌∷◌, [], true, length, OnOk, OnErr};
+ghost use Rattle.std.specs.List.{list_all};
+ghost use Rattle.ws_model.specs.Account.{account};
+ghost use Rattle.ws_model.specs.Moment.{time, serial, intent_number};
+ghost use Rattle.ws_drive.specs.Desk.{history_of, is_ask};
+ghost use Rattle.ws_model.specs.Asks.{only_pending};
+ghost use Rattle.ws_drive.specs.World.{hub_time, asked, intent_for};
+
+use crate::script::MAX_TIME;
+use std::alloc::Global;
+use ws_form::Ask;
+use ws_model::{Account, Alg, Event, Events, Intent, Mode, NoMemory, What};
+
+/// A history of accepted asks, and the last hub time used, in seconds.
+#[derive(Drop)]
+pub struct Desk {
+    pub used: u64,
+    pub events: Events,
+    ghost timely: { time (history_of events) ≤ used },
+    ghost serials: { serial (history_of events) ≡ length events },
+    ghost intents: { intent_number (history_of events) ≡ length events },
+    ghost asks: { list_all (λ e. is_ask e.what) (history_of events) ≡ true },
+}
+
+// The intent of an ask.
+fn intent_of(n: u64, ask: Ask) -> Intent
+    ensures { result ≡ intent_for n ask }
+{
+    let Ask::Subscribe {
+        topic,
+        echo,
+        callback,
+        secret,
+        granted,
+    } = ask;
+    Intent {
+        n,
+        mode: Mode::On,
+        topic,
+        echo,
+        callback,
+        secret,
+        granted,
+        alg: Alg::Sha256,
+    }
+}
+
+// The account of so many pending intents and of nothing else.
+fn only_pending(pending: u64) -> Account
+    ensures { result ≡ only_pending pending }
+{
+    Account {
+        pending,
+        notices: 0,
+        leases: 0,
+        topics: 0,
+        fetches: 0,
+        owed: 0,
+        answered: 0,
+        expired: 0,
+        unsubscribed: 0,
+        replaced: 0,
+        gone: 0,
+        spent: 0,
+        revoked: 0,
+    }
+}
+
+impl Desk {
+    /// A desk with an empty history. It takes no memory.
+    pub fn empty(alloc: Global) -> Desk
+        ensures used { result.used ≡ 0 }
+        ensures events { result.events ≡ [] }
+    {
+        Desk {
+            used: 0,
+            events: Events::empty(alloc),
+        }
+    }
+
+    fn hub_time(&self, now: u64) -> u64
+        ensures { result ≡ hub_time now self.now.used (history_of self.now.events) }
+    {
+        now.min(MAX_TIME).max(self.used)
+    }
+
+    /// Commits the event of an ask at the clock's value `now`. At an error nothing changes.
+    pub fn ask(&mut self, now: u64, ask: Ask) -> Result<(), NoMemory>
+        requires { length self.old.events < 2 ^ 63 }
+        ensures used { OnOk result (self.new.used ≡ hub_time now self.old.used (history_of self.old.events)) }
+        ensures history { OnOk result (history_of self.new.events
+            ≡ asked (hub_time now self.old.used (history_of self.old.events)) (history_of self.old.events) ask ∷ history_of self.old.events) }
+        ensures err { OnErr result (self.new ≡ self.old) }
+    {
+        let t = self.hub_time(now);
+        let number = self.events.len() as u64 + 1;
+        let what = What::Asked(intent_of(number, ask));
+        self.events.push(Event {
+            serial: number,
+            t,
+            what,
+        })?;
+        self.used = t;
+        Ok(())
+    }
+
+    /// The account at the clock's value `now`, which uses a hub time.
+    pub fn account(&mut self, now: u64) -> Account
+        ensures account { result ≡ account (history_of self.old.events) (hub_time now self.old.used (history_of self.old.events)) }
+        ensures used { self.new.used ≡ hub_time now self.old.used (history_of self.old.events) }
+        ensures events { self.new.events ≡ self.old.events }
+    {
+        self.used = self.hub_time(now);
+        only_pending(self.events.len() as u64)
+    }
+}

@@ -1,0 +1,13 @@
+//! Plays a script of happenings, and writes its transcript.
+#![tactic(auto)]
+
+mod account_text;
+mod desk;
+mod give;
+mod play;
+mod script;
+mod session;
+mod take;
+
+pub use play::{Stop, Turn, drive};
+pub use script::{Happening, Line};

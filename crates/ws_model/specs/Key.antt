@@ -1,5 +1,6 @@
 -- What a key is (URL Standard, sections 4.4 and 4.5, as the crate `url` states them).
 use Rattle.std.specs.Prelude.{ℕ, Bool, false, not, ◌&&◌, ◌||◌, List, None, is_some, Result, Ok, Err, codes, bytes_eq}
+use Rattle.std.specs.Str.{is_utf8}
 use Rattle.url.specs.declared.error.ParseError.{ParseError}
 use Rattle.url.specs.Parts.{Parts, serialize, has_credentials}
 use Rattle.url.specs.Parser.{parse_url}
@@ -15,7 +16,7 @@ is_key_of text (Ok url) =
     is_web_scheme url.scheme && not (has_credentials url) && not (is_some url.fragment)
     && bytes_eq (serialize url) text
 
--- A key is the text of an http or https URL with no user name, password or fragment, which
--- serializes to itself.
+-- A key is the text, in UTF-8, of an http or https URL with no user name, password or fragment,
+-- which serializes to itself.
 unfoldable pub is_key : List ℕ → Bool
-is_key text = is_key_of text (parse_url None text)
+is_key text = is_utf8 text && is_key_of text (parse_url None text)

@@ -1,0 +1,4 @@
+pub mod Address
+pub mod Keys
+pub mod Requests
+pub mod Answers

@@ -1,5 +1,5 @@
 -- A happening is a line and the bytes behind it.
-use Rattle.std.proofs.Common.{◌≡◌, ◌≢◌, ℕ, List, [], ◌∷◌, ◌++◌, refl, sym, ap, ◌∙◌, subst, append_assoc, Option, Some, None, Result, Ok, Err, IfSome}
+use Rattle.std.proofs.Common.{◌≡◌, ◌≢◌, ℕ, length, List, [], ◌∷◌, ◌++◌, refl, sym, ap, ◌∙◌, subst, append_assoc, Option, Some, None, Result, Ok, Err, IfSome}
 use Rattle.std.specs.Io.KnownBytes.{Consumes}
 use Rattle.ws_drive.specs.declared.script.Line.{Line}
 use Rattle.ws_drive.specs.declared.script.Line.TheVariants as line
@@ -7,9 +7,9 @@ use Rattle.ws_drive.specs.declared.script.Happening.{Happening}
 use Rattle.ws_drive.specs.declared.script.Happening.TheVariants as happens
 use Rattle.ws_drive.specs.Moves.{NoneOf, Reads, ConsumesSome}
 use Rattle.ws_drive.specs.Reading.{IsOneLine, IsShortLine, HasSize, with_line_feed}
-use Rattle.ws_drive.specs.Script.{IsLine, IsHappening, HasLine, line_text, line_of, bytes_behind, text, NoneBegins}
+use Rattle.ws_drive.specs.Script.{OneReading, IsLine, IsHappening, HasLine, line_text, line_of, bytes_behind, text, NoneBegins}
 use Rattle.ws_drive.proofs.Known.{Consumes-then}
-use Rattle.ws_drive.proofs.Lines.{same_line, line_text_one, line_text_short, line_text_injective}
+use Rattle.ws_drive.proofs.Lines.{same_line, same_front, tail_is, line_text_one, line_text_short, line_text_injective}
 
 -- only `form` has bytes behind its line
 pub form_none : (size : ℕ) (bytes : List ℕ) → NoneOf with_line_feed (HasSize size) bytes → NoneOf bytes_behind (HasLine (line.Form size)) bytes
@@ -58,3 +58,32 @@ pub no_short_line : (bytes : List ℕ) → NoneOf with_line_feed IsShortLine byt
 no_short_line bytes none h rest within e =
     let split : bytes ≡ with_line_feed (line_text (line_of h)) ++ (bytes_behind h ++ rest) = e ∙ parts h rest ∙ sym (append_assoc (line_text (line_of h)) (10 ∷ []) (bytes_behind h ++ rest)) in
     none (line_text (line_of h)) (bytes_behind h ++ rest) (short_text h within) split
+
+same_behind : (h k : Happening) (rest others : List ℕ) → line_of h ≡ line_of k → bytes_behind h ++ rest ≡ bytes_behind k ++ others → (h ≡ k) × (rest ≡ others)
+same_behind (happens.At t) (happens.At u) rest others l e = (ap happens.At (cc), e)
+same_behind (happens.Form body) (happens.Form other) rest others l e =
+    let size : length body ≡ length other = cc in
+    let split : body ++ 10 ∷ rest ≡ other ++ 10 ∷ others = cc (append_assoc body (10 ∷ []) rest, append_assoc other (10 ∷ []) others, e) in
+    let bodies = same_front body other (10 ∷ rest) (10 ∷ others) size split in
+    (ap happens.Form bodies.0, tail_is 10 10 rest others bodies.1)
+same_behind happens.Sum happens.Sum rest others l e = (refl, e)
+same_behind happens.End happens.End rest others l e = (refl, e)
+same_behind (happens.At t) (happens.Form body) rest others l e = absurd (cc)
+same_behind (happens.At t) happens.Sum rest others l e = absurd (cc)
+same_behind (happens.At t) happens.End rest others l e = absurd (cc)
+same_behind (happens.Form body) (happens.At u) rest others l e = absurd (cc)
+same_behind (happens.Form body) happens.Sum rest others l e = absurd (cc)
+same_behind (happens.Form body) happens.End rest others l e = absurd (cc)
+same_behind happens.Sum (happens.At u) rest others l e = absurd (cc)
+same_behind happens.Sum (happens.Form body) rest others l e = absurd (cc)
+same_behind happens.Sum happens.End rest others l e = absurd (cc)
+same_behind happens.End (happens.At u) rest others l e = absurd (cc)
+same_behind happens.End (happens.Form body) rest others l e = absurd (cc)
+same_behind happens.End happens.Sum rest others l e = absurd (cc)
+
+-- one happening stands at the front
+pub apart : OneReading
+apart h k rest others p q e =
+    let split : line_text (line_of h) ++ 10 ∷ (bytes_behind h ++ rest) ≡ line_text (line_of k) ++ 10 ∷ (bytes_behind k ++ others) = sym (parts h rest) ∙ e ∙ parts k others in
+    let same = same_line (line_text (line_of h)) (line_text (line_of k)) (bytes_behind h ++ rest) (bytes_behind k ++ others) (line_text_one (line_of h) p) (line_text_one (line_of k) q) split in
+    same_behind h k rest others (line_text_injective (line_of h) (line_of k) p q same.0) same.1

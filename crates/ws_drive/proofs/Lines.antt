@@ -12,7 +12,7 @@ pub IsOneLine-push : (bytes : List ℕ) (b : ℕ) → IsOneLine bytes → (b == 
 IsOneLine-push [] b one p = (p, tt)
 IsOneLine-push (c ∷ bytes) b one p = (one.0, IsOneLine-push bytes b one.1 p)
 
-tail_is : (x y : ℕ) (xs ys : List ℕ) → (x ∷ xs) ≡ (y ∷ ys) → xs ≡ ys
+pub tail_is : (x y : ℕ) (xs ys : List ℕ) → (x ∷ xs) ≡ (y ∷ ys) → xs ≡ ys
 tail_is x y xs ys e = cc
 
 no_line_feed : (b : ℕ) (xs ys : List ℕ) → (b == 10) ≡ false → (b ∷ xs) ≡ (10 ∷ ys) → ⊥
@@ -63,17 +63,21 @@ bytes_cut size bytes short found rest has e = absurd (omega (arith, has, length-
 pub body_cut : (size : ℕ) (bytes : List ℕ) → NoneOf (λ (b : List ℕ). b) (HasSize size) bytes → NoneOf with_line_feed (HasSize size) bytes
 body_cut size bytes none found rest has e = none found (10 ∷ rest) has (e ∙ append_assoc found (10 ∷ []) rest)
 
-same_front : (a b rest others : List ℕ) → length a ≡ length b → a ++ rest ≡ b ++ others → rest ≡ others
-same_front [] [] rest others h e = e
+-- two of one length in front of others are one
+pub same_front : (a b rest others : List ℕ) → length a ≡ length b → a ++ rest ≡ b ++ others → (a ≡ b) × (rest ≡ others)
+same_front [] [] rest others h e = (refl, e)
 same_front [] (d ∷ b) rest others h e = absurd (omega arith)
 same_front (c ∷ a) [] rest others h e = absurd (omega arith)
-same_front (c ∷ a) (d ∷ b) rest others h e = same_front a b rest others (omega arith) (tail_is c d (a ++ rest) (b ++ others) e)
+same_front (c ∷ a) (d ∷ b) rest others h e =
+    let more = same_front a b rest others (omega arith) (tail_is c d (a ++ rest) (b ++ others) e) in
+    let head : c ≡ d = cc in
+    (ap (λ x. x ∷ a) head ∙ ap (λ xs. d ∷ xs) more.0, more.1)
 
 -- another byte stands behind the bytes
 pub body_other : (size b : ℕ) (body others : List ℕ) → length body ≡ size → (b == 10) ≡ false → NoneOf with_line_feed (HasSize size) ((body ++ b ∷ []) ++ others)
 body_other size b body others is other found rest has e =
     let split : body ++ b ∷ others ≡ found ++ 10 ∷ rest = cc (append_assoc body (b ∷ []) others, append_assoc found (10 ∷ []) rest) in
-    no_line_feed b others rest other (same_front body found (b ∷ others) (10 ∷ rest) (omega arith) split)
+    no_line_feed b others rest other (same_front body found (b ∷ others) (10 ∷ rest) (omega arith) split).1
 
 -- nothing stands behind the bytes
 pub body_end : (size : ℕ) (body : List ℕ) → length body ≡ size → NoneOf with_line_feed (HasSize size) body

@@ -60,3 +60,9 @@ is_end _ = false
 -- the most happenings that a script has
 abbrev pub most_happenings : ℕ
 most_happenings = 2 ^ 40
+
+-- at most one happening stands at the front of bytes, and it leaves one rest
+abbrev pub OneReading : Type 0
+OneReading =
+    (h k : Happening) (rest others : List ℕ) → IsHappening h → IsHappening k
+    → text h ++ rest ≡ text k ++ others → (h ≡ k) × (rest ≡ others)

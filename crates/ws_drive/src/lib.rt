@@ -4,6 +4,7 @@
 mod account_text;
 mod desk;
 mod give;
+pub mod laws;
 mod play;
 mod script;
 mod session;

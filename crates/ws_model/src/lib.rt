@@ -2,6 +2,7 @@
 #![tactic(auto)]
 
 mod account;
+mod answers;
 mod bytes;
 mod event;
 mod fate;
@@ -9,6 +10,7 @@ mod lease;
 mod work;
 
 pub use account::Account;
+pub use answers::{Kind, Settled};
 pub use bytes::{Bytes, Key, Keys, NoMemory, Pair};
 pub use event::{Alg, Event, Events, How, Intent, Mode, Tally, Version, What};
 pub use fate::{Cause, Fate};

@@ -1,6 +1,6 @@
 -- Which histories are legal (own; the grounds in WebSub stand at the definitions that are cited).
-use Rattle.std.specs.Prelude.{◌≡◌, ℕ, ◌+◌, ◌^◌, Bool, true, false, cond, not, ◌&&◌, ◌||◌, List, [], ◌∷◌, length, nat_lt, nat_le, ◌==◌, bytes_eq, is_some, Option, Some, None, find}
-use Rattle.std.specs.List.{list_any, last_or}
+use Rattle.std.specs.Prelude.{◌≡◌, ℕ, ◌+◌, ◌-◌, ◌^◌, Bool, true, false, cond, not, ◌&&◌, ◌||◌, List, [], ◌∷◌, length, nat_lt, nat_le, ◌==◌, bytes_eq, is_some, get_or, Option, Some, None, find}
+use Rattle.std.specs.List.{list_any}
 use Rattle.std.specs.Char.{is_ascii_control}
 use Rattle.ws_model.specs.declared.event.Event.{Event}
 use Rattle.ws_model.specs.declared.event.What.{What}
@@ -55,19 +55,20 @@ is_sound_intent i =
 abbrev pub is_blank : ℕ → Bool
 is_blank c = (c == 32) || (c == 9)
 
-abbrev pub is_blank_one : Option ℕ → Bool
-is_blank_one None = false
-is_blank_one (Some c) = is_blank c
+-- no space and no tab at its ends
+abbrev pub is_trimmed : List ℕ → Bool
+is_trimmed text = not (is_blank (get_or text 0 0)) && not (is_blank (get_or text (length text - 1) 0))
 
-abbrev pub first_of : List ℕ → Option ℕ
-first_of [] = None
-first_of (c ∷ cs) = Some c
+abbrev pub has_byte : ℕ → List ℕ → Bool
+has_byte b text = list_any (λ c. c == b) text
+
+-- neither CR nor LF nor NUL: RFC 9110 section 5.5 has none of them in a field's value
+abbrev pub is_field_value : List ℕ → Bool
+is_field_value text = not (has_byte 13 text) && not (has_byte 10 text) && not (has_byte 0 text)
 
 -- a media type that a head can carry: no CR, LF or NUL, and no space or tab at its ends
 abbrev pub is_media : List ℕ → Bool
-is_media text =
-    not (list_any (λ c. (c == 13) || (c == 10) || (c == 0)) text)
-    && not (is_blank_one (first_of text)) && not (is_blank_one (last_or None text))
+is_media text = is_field_value text && is_trimmed text
 
 -- a link that a Link field can carry: no control byte and no `>`
 abbrev pub is_link : List ℕ → Bool

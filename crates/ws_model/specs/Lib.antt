@@ -4,6 +4,7 @@ pub mod Asks
 pub mod Due
 pub mod Equality
 pub mod Fate
+pub mod Fit
 pub mod History
 pub mod Intents
 pub mod Keep

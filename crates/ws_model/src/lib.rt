@@ -15,4 +15,4 @@ pub use bytes::{Bytes, Key, Keys, NoMemory, Pair};
 pub use event::{Alg, Event, Events, How, Intent, Mode, Tally, Version, What};
 pub use fate::{Cause, Fate};
 pub use lease::Lease;
-pub use work::{Outcome, Reply, Work};
+pub use work::{Held, Outcome, Reply, Work, delay};

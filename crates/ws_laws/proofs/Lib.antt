@@ -1,0 +1,6 @@
+pub mod ListLaws
+pub mod Advance
+pub mod Known
+pub mod Step
+pub mod Ended
+pub mod Counts

@@ -4,3 +4,5 @@ pub mod Known
 pub mod Step
 pub mod Ended
 pub mod Counts
+pub mod Denied
+pub mod Notices

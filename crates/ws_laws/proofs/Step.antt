@@ -35,11 +35,11 @@ use Rattle.ws_model.specs.View.{OwedPush, owed_push, view, waiting}
 pub find_pending : (h : List Event) (n : ℕ) → find (λ i. i.n == n) (pending h) ≡ cond (is_pending_number h n) (find (λ i. i.n == n) (asked h)) None
 find_pending h n = find-filter (λ i. i.n == n) (is_pending h) (is_pending_number h n) (λ i k. ap (is_pending_number h) (eqb-true i.n n k)) (asked h)
 
-found_waiting : (h : List Event) (o : Option Intent) → found (λ w. w.intent) (option_map (waiting h) o) ≡ o
+pub found_waiting : (h : List Event) (o : Option Intent) → found (λ w. w.intent) (option_map (waiting h) o) ≡ o
 found_waiting h None = refl
 found_waiting h (Some i) = refl
 
-named_pending : (h : List Event) (n : ℕ) → found (λ w. w.intent) (find (λ w. w.intent.n == n) (map (waiting h) (pending h))) ≡ find (λ i. i.n == n) (pending h)
+pub named_pending : (h : List Event) (n : ℕ) → found (λ w. w.intent) (find (λ w. w.intent.n == n) (map (waiting h) (pending h))) ≡ find (λ i. i.n == n) (pending h)
 named_pending h n = ap (found (λ w. w.intent)) (find-map (waiting h) (λ w. w.intent.n == n) (pending h)) ∙ found_waiting h _
 
 -- a confirmation is allowed for an intent that is pending

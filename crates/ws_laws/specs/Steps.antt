@@ -17,7 +17,7 @@ use Rattle.ws_model.specs.Leases.{expiry, is_on, lease_by, lease_of, end_by}
 use Rattle.ws_model.specs.Fate.{is_push, is_miss, is_done, delay, fate_by}
 use Rattle.ws_model.specs.Due.{place}
 use Rattle.ws_model.specs.Account.{is_answered, is_ended, most}
-use Rattle.ws_model.specs.Legal.{is_sound, is_confirmed_in_time, number_limit, time_limit, Legal, accepts}
+use Rattle.ws_model.specs.Legal.{is_on_one, is_sound, is_confirmed_in_time, number_limit, time_limit, Legal, accepts}
 use Rattle.ws_model.specs.View.{View, Waiting, OwedNotice, OwedFetch, OwedPush, view}
 
 -- ---- to a later moment
@@ -245,10 +245,6 @@ is_first_one_in v (Some i) = is_first_in v i
 abbrev pub is_confirmable_in : View → ℕ → ℕ → Option Intent → Bool
 is_confirmable_in v sent t None = false
 is_confirmable_in v sent t (Some i) = is_first_in v i && nat_le sent t && is_confirmed_in_time sent t i
-
-abbrev pub is_on_one : Option Intent → Bool
-is_on_one None = false
-is_on_one (Some i) = is_on i.mode
 
 -- what an event asks of the view at its time
 abbrev pub is_allowed_in : What → ℕ → View → Bool

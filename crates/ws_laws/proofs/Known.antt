@@ -15,7 +15,7 @@ use Rattle.ws_model.specs.Fate.{Pair, fate, is_owed, is_push}
 use Rattle.ws_model.specs.History.{has}
 use Rattle.ws_model.specs.Intents.{asked, intents_of, is_pending, pending, same_pair}
 use Rattle.ws_model.specs.Leases.{confirmed_intent, first_end, is_confirmed, is_on, lease_by, lease_end, lease_of, leases, live}
-use Rattle.ws_model.specs.Legal.{Legal, accepts, accepts_what, is_allowed, is_in_order, is_sound, number_limit, time_limit}
+use Rattle.ws_model.specs.Legal.{Legal, accepts, accepts_what, is_allowed, is_first_tally, is_in_order, is_sound, number_limit, time_limit}
 use Rattle.ws_model.specs.Moment.{asked_number, fetched_number, last_intent, last_serial, last_time, last_version, serial}
 use Rattle.ws_model.specs.Pairs.{births, carried, owed, pair, pairs}
 use Rattle.ws_model.specs.Verdict.{fetched}
@@ -121,6 +121,13 @@ allowed h e k = (accepted e h e.what k).0
 
 pub in_time : (h : List Event) (e : Event) → accepts h e ≡ true → last_time h ≤ e.t
 in_time h e k = (accepted e h e.what k).1
+
+sound_of : (e : Event) (h : List Event) (w : What) → accepts_what e h w ≡ true → is_sound e.serial w ≡ true
+sound_of e h (Tally c) k = (and_parts (is_first_tally e h) _ k).1
+sound_of e h w k = (and_parts (is_in_order e h) _ (and_parts (is_in_order e h && is_sound e.serial w) _ k).0).1
+
+pub sound : (h : List Event) (e : Event) → accepts h e ≡ true → is_sound e.serial e.what ≡ true
+sound h e k = sound_of e h e.what k
 
 -- ---- each push is of a pair that was there
 

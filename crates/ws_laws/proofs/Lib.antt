@@ -6,3 +6,4 @@ pub mod Ended
 pub mod Counts
 pub mod Denied
 pub mod Notices
+pub mod Topics

@@ -74,9 +74,9 @@ is_media text = is_field_value text && is_trimmed text
 abbrev pub is_link : List ℕ → Bool
 is_link text = not (list_any (λ c. is_ascii_control c || (c == 62)) text)
 
-abbrev pub is_sound_version : ℕ → Version → Bool
-is_sound_version s v =
-    nat_lt v.ver number_limit && nat_lt v.upto s && is_key_text v.topic && is_text v.media && is_media v.media
+abbrev pub is_sound_version : Version → Bool
+is_sound_version v =
+    nat_lt v.ver number_limit && is_key_text v.topic && is_text v.media && is_media v.media
     && is_text v.own_link && is_link v.own_link && nat_le (length v.body) body_limit
 
 abbrev pub is_sound_tally : TallyFields → Bool
@@ -91,7 +91,7 @@ is_sound s (Unheard n) = true
 is_sound s (Barred n reason) = is_text reason
 is_sound s (Noticed n heard) = true
 is_sound s (Pinged topic) = is_key_text topic
-is_sound s (Fetched v) = is_sound_version s v
+is_sound s (Fetched v) = is_sound_version v && nat_lt v.upto s
 is_sound s (Same topic upto) = is_text topic && nat_lt upto s
 is_sound s (Unfetched topic upto why) = is_key_text topic && nat_lt upto s
 is_sound s (Pushed v n how) = true

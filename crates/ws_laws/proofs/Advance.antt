@@ -51,5 +51,5 @@ owed_later_at h p t u le =
 pub owed_later : (h : List Event) (t u : ℕ) → t ≤ u → owed h u ≡ filter (λ p. nat_lt u (expiry p.lease)) (owed h t)
 owed_later h t u le = filter-filter _ _ _ (λ p. owed_later_at h p t u le) (pairs h)
 
-owing_later : (h : List Event) (t u : ℕ) → t ≤ u → map (owed_push h) (owed h u) ≡ filter (λ o. nat_lt u (expiry o.lease)) (map (owed_push h) (owed h t))
+pub owing_later : (h : List Event) (t u : ℕ) → t ≤ u → map (owed_push h) (owed h u) ≡ filter (λ o. nat_lt u (expiry o.lease)) (map (owed_push h) (owed h t))
 owing_later h t u le = ap (map (owed_push h)) (owed_later h t u le) ∙ sym (filter-map (owed_push h) (λ o. nat_lt u (expiry o.lease)) (owed h t))

@@ -25,14 +25,14 @@ use Rattle.ws_model.specs.Moment.{last_time}
 use Rattle.ws_model.specs.Pairs.{births, owed, pairs}
 use Rattle.ws_model.specs.View.{owed_push}
 
-either : {X : Type 0} (b c : Bool) (x : X) (ps qs rs : List X) → (b ≡ true → c ≡ false) → length ps ≡ length qs + length rs → length (cond (b || c) (x ∷ ps) ps) ≡ length (cond b (x ∷ qs) qs) + length (cond c (x ∷ rs) rs)
+pub either : {X : Type 0} (b c : Bool) (x : X) (ps qs rs : List X) → (b ≡ true → c ≡ false) → length ps ≡ length qs + length rs → length (cond (b || c) (x ∷ ps) ps) ≡ length (cond b (x ∷ qs) qs) + length (cond c (x ∷ rs) rs)
 either true true x ps qs rs f e = absurd (false≢true (sym (f refl)))
 either true false x ps qs rs f e = omega arith
 either false true x ps qs rs f e = omega arith
 either false false x ps qs rs f e = e
 
 -- counting what passes one of two tests that never pass together
-count_either : {X : Type 0} (p q r : X → Bool) (xs : List X) → AllByRecursion (λ x. (p x ≡ (q x || r x)) × (q x ≡ true → r x ≡ false)) xs → length (filter p xs) ≡ length (filter q xs) + length (filter r xs)
+pub count_either : {X : Type 0} (p q r : X → Bool) (xs : List X) → AllByRecursion (λ x. (p x ≡ (q x || r x)) × (q x ≡ true → r x ≡ false)) xs → length (filter p xs) ≡ length (filter q xs) + length (filter r xs)
 count_either p q r [] a = omega arith
 count_either p q r (x ∷ xs) a = rw a.0.0 (either (q x) (r x) x (filter p xs) (filter q xs) (filter r xs) a.0.1 (count_either p q r xs a.1))
 
@@ -48,13 +48,13 @@ cause_now None x t None k n = none_is _ n
 cause_now None x t (Some c) k n = ends_it x t c n
 cause_now (Some a) x t c k n = absurd (false≢true (sym (ended_before a.0 x t a.1 k) ∙ n))
 
-or_false : (b c : Bool) → c ≡ false → (b || c) ≡ b
+pub or_false : (b c : Bool) → c ≡ false → (b || c) ≡ b
 or_false true c e = refl
 or_false false c e = e
 
 -- an owed pair after the event
-turned : (e : Event) (h : List Event) (p : Pair) → last_time h ≤ e.t → IsKnown h p → is_owed (fate h p e.t) ≡ true → fate (e ∷ h) p e.t ≡ turn e.t e.what (confirmed_intent e.what h) (owed_push h p)
-turned e h p le known k =
+pub turned_at : (e : Event) (h : List Event) (p : Pair) → last_time h ≤ e.t → IsKnown h p → is_owed (fate h p e.t) ≡ true → fate (e ∷ h) p e.t ≡ turn e.t e.what (confirmed_intent e.what h) (owed_push h p)
+turned_at e h p le known k =
     let parts = and_parts (not (has (is_push is_done p.version.ver p.lease.intent.n) h) && not (nat_le 8 (misses h p))) (is_none (lease_end h p.lease e.t)) (sym (is_owed_parts _ _ (lease_end h p.lease e.t) _) ∙ k) in
     let undone : has (is_push is_done p.version.ver p.lease.intent.n) h ≡ false = not-true _ (and_parts (not (has (is_push is_done p.version.ver p.lease.intent.n) h)) _ parts.0).0 in
     let done : has (is_push is_done p.version.ver p.lease.intent.n) (e ∷ h) ≡ is_push is_done p.version.ver p.lease.intent.n e.what = or_false (is_push is_done p.version.ver p.lease.intent.n e.what) (has (is_push is_done p.version.ver p.lease.intent.n) h) undone in
@@ -63,7 +63,7 @@ turned e h p le known k =
     λ i. fate_by (done i) (misses (e ∷ h) p) (cause i) ((owing_step e h p i).next)
 
 module _ (test : Fate → Bool) (un : (m n : ℕ) → test (Owed m n) ≡ false) where
-  untested : (f : Fate) → is_owed f ≡ true → test f ≡ false
+  pub untested : (f : Fate) → is_owed f ≡ true → test f ≡ false
   untested Answered k = absurd (false≢true k)
   untested (Owed m n) k = un m n
   untested (Ended c) k = absurd (false≢true k)
@@ -77,7 +77,7 @@ module _ (test : Fate → Bool) (un : (m n : ℕ) → test (Owed m n) ≡ false)
   at_pair e h p l known told = by (is_owed (fate h p e.t)) refl
     where
       by : (b : Bool) → is_owed (fate h p e.t) ≡ b → (test (fate (e ∷ h) p e.t) ≡ (test (fate h p e.t) || (b && test (turn e.t e.what (confirmed_intent e.what h) (owed_push h p))))) × (test (fate h p e.t) ≡ true → (b && test (turn e.t e.what (confirmed_intent e.what h) (owed_push h p))) ≡ false)
-      by true k = (ap test (turned e h p (in_time h e l.1) known k) ∙ ap (λ b. b || test (turn e.t e.what (confirmed_intent e.what h) (owed_push h p))) (sym (untested (fate h p e.t) k)), λ y. absurd (false≢true (sym (untested (fate h p e.t) k) ∙ y)))
+      by true k = (ap test (turned_at e h p (in_time h e l.1) known k) ∙ ap (λ b. b || test (turn e.t e.what (confirmed_intent e.what h) (owed_push h p))) (sym (untested (fate h p e.t) k)), λ y. absurd (false≢true (sym (untested (fate h p e.t) k) ∙ y)))
       by false k = (ap test (one_more e h p e.t e.t l (omega arith) (omega arith) told k) ∙ sym (or_false (test (fate h p e.t)) false refl), λ y. refl)
 
   pub counted : (h : List Event) (e : Event) → Legal (e ∷ h) → fated test (e ∷ h) e.t ≡ fated test h e.t + length (filter (λ w. test (turn e.t e.what (confirmed_intent e.what h) w)) (map (owed_push h) (owed h e.t)))

@@ -120,7 +120,7 @@ expired_later x t u a k = grind (arith, nat_tests)
 expired_before : (x t s u : ℕ) (c : Cause) → t ≤ s → s ≤ u → is_none (cond (nat_le x t) (Some Expired) None) ≡ false → cond (nat_lt s x) (Some c) (cond (nat_le x u) (Some Expired) None) ≡ cond (nat_le x t) (Some Expired) None
 expired_before x t s u c a b k = grind (arith, nat_tests)
 
-end_later : (o : Option (ℕ × Cause)) (x t u : ℕ) → t ≤ u → is_none (cause_of o x t) ≡ false → cause_of o x u ≡ cause_of o x t
+pub end_later : (o : Option (ℕ × Cause)) (x t u : ℕ) → t ≤ u → is_none (cause_of o x t) ≡ false → cause_of o x u ≡ cause_of o x t
 end_later None x t u a k = expired_later x t u a k
 end_later (Some e) x t u a k = one (nat_lt e.0 x) k
   where
@@ -141,7 +141,7 @@ fate_at : (m : ℕ) (c : Option Cause) (n : ℕ) → fate_by false m c n ≡ con
 fate_at m None n = refl
 fate_at m (Some c) n = refl
 
-fate_stays : (d : Bool) (m : ℕ) (c c' : Option Cause) (n n' : ℕ) → (is_none c ≡ false → c' ≡ c) → is_owed (fate_by d m c n) ≡ false → fate_by d m c' n' ≡ fate_by d m c n
+pub fate_stays : (d : Bool) (m : ℕ) (c c' : Option Cause) (n n' : ℕ) → (is_none c ≡ false → c' ≡ c) → is_owed (fate_by d m c n) ≡ false → fate_by d m c' n' ≡ fate_by d m c n
 fate_stays true m c c' n n' f k = refl
 fate_stays false m c c' n n' f k = fate_at m c' n' ∙ one (nat_le 8 m) c f (rw (fate_at m c n) at k) ∙ sym (fate_at m c n)
   where

@@ -7,3 +7,8 @@ pub mod Counts
 pub mod Denied
 pub mod Notices
 pub mod Topics
+pub mod Moments
+pub mod Accounts
+pub mod Views
+pub mod Follow
+pub mod Apart

@@ -57,7 +57,7 @@ confirming h n sent t o false p e k = absurd (false≢true k)
 pub confirms : (h : List Event) (n sent t : ℕ) → is_allowed (Confirmed n sent) t h ≡ true → IsConfirming h n sent t
 confirms h n sent t k = confirming h n sent t _ _ refl refl (rw (find_pending h n) at k)
 
-named_is : (w : What) (t : ℕ) (h : List Event) → is_allowed w t h ≡ true → confirmed_in w (view h t) ≡ confirmed_intent w h
+pub named_is : (w : What) (t : ℕ) (h : List Event) → is_allowed w t h ≡ true → confirmed_in w (view h t) ≡ confirmed_intent w h
 named_is (Confirmed n sent) t h k = let c = confirms h n sent t k in named_pending h n ∙ find_pending h n ∙ ap (λ b. cond b (find (λ i. i.n == n) (asked h)) None) c.pending
 named_is _ t h k = refl
 
@@ -196,7 +196,7 @@ new_pending (Asked i) s t h l k =
     (record { pending = rw (settled, unheard); unheard = unheard }, tt)
 new_pending _ s t h l k = tt
 
-pending_step : (e : Event) (h : List Event) → Legal h → accepts h e ≡ true → map (waiting (e ∷ h)) (pending (e ∷ h)) ≡ new_waiting e.what ++ map (unheard_more e.what) (filter (stays_pending e.what) (map (waiting h) (pending h)))
+pub pending_step : (e : Event) (h : List Event) → Legal h → accepts h e ≡ true → map (waiting (e ∷ h)) (pending (e ∷ h)) ≡ new_waiting e.what ++ map (unheard_more e.what) (filter (stays_pending e.what) (map (waiting h) (pending h)))
 pending_step e h l k =
     let new = new_pending e.what e.serial e.t h l (allowed h e k) in
     ap (map (waiting (e ∷ h)))
@@ -295,7 +295,7 @@ births_in (Fetched v) t o h = map-map (pair t v) (untried_owing t) _
 births_in (Confirmed n sent) t o h = reborn_in t h (owed h t) (lease_by sent o)
 births_in _ t o h = refl
 
-owed_step : (e : Event) (h : List Event) → Legal h → accepts h e ≡ true → map (owed_push (e ∷ h)) (owed (e ∷ h) e.t) ≡ new_pushes e.t e.what (confirmed_intent e.what h) (view h e.t) ++ map (after_miss e.t e.what) (filter (stays_owed e.what (confirmed_intent e.what h)) (map (owed_push h) (owed h e.t)))
+pub owed_step : (e : Event) (h : List Event) → Legal h → accepts h e ≡ true → map (owed_push (e ∷ h)) (owed (e ∷ h) e.t) ≡ new_pushes e.t e.what (confirmed_intent e.what h) (view h e.t) ++ map (after_miss e.t e.what) (filter (stays_owed e.what (confirmed_intent e.what h)) (map (owed_push h) (owed h e.t)))
 owed_step e h l k =
     let le : last_time h ≤ e.t = in_time h e k in
     let o : Option Intent = confirmed_intent e.what h in

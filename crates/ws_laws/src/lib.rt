@@ -2,3 +2,6 @@
 //! and what fates, leases and due work keep to. Each law is the contract of a function that does
 //! nothing.
 #![tactic(auto)]
+
+pub mod fates;
+pub mod steps;

@@ -2,6 +2,7 @@
 #![tactic(auto)]
 
 mod account;
+mod answers;
 mod bytes;
 mod event;
 mod fate;
@@ -9,8 +10,9 @@ mod lease;
 mod work;
 
 pub use account::Account;
+pub use answers::{Kind, Settled};
 pub use bytes::{Bytes, Key, Keys, NoMemory, Pair};
 pub use event::{Alg, Event, Events, How, Intent, Mode, Tally, Version, What};
 pub use fate::{Cause, Fate};
 pub use lease::Lease;
-pub use work::{Outcome, Reply, Work};
+pub use work::{Held, Outcome, Reply, Work, delay};

@@ -1,0 +1,14 @@
+pub mod ListLaws
+pub mod Advance
+pub mod Known
+pub mod Step
+pub mod Ended
+pub mod Counts
+pub mod Denied
+pub mod Notices
+pub mod Topics
+pub mod Moments
+pub mod Accounts
+pub mod Views
+pub mod Follow
+pub mod Apart

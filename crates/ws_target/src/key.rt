@@ -1,6 +1,7 @@
 ghost use Rattle.std.specs.Prelude.{◌≡◌, ◌≤◌, length, true, Ok, Err, IfOk};
-ghost use Rattle.url.specs.Parts.{has_credentials};
-ghost use Rattle.ws_model.specs.Key.{is_key, is_key_of};
+ghost use Rattle.std.specs.List.{list_all};
+ghost use Rattle.url.specs.Parts.{IsValid, has_credentials};
+ghost use Rattle.ws_model.specs.Key.{is_key, is_key_byte, is_key_of, is_own_text};
 ghost use Rattle.ws_target.specs.Keys.{KeyIsItsOwn, joined, is_served, key_or_fault};
 ghost use Rattle.ws_target.specs.Answers.{Gives, GivesFound};
 
@@ -81,9 +82,18 @@ fn has_credentials(url: &Url) -> bool
 
 /// Whether the bytes are a key: the text of an http or https URL without user name, password and
 /// fragment that serializes to itself (URL Standard, sections 4.4 and 4.5). They may be of any length.
-#[tactic(auto, using(crate::proofs::KeyLemmas::is_key_at_url, crate::proofs::KeyLemmas::is_key_not_url))]
+#[tactic(auto, using(crate::proofs::KeyLemmas::is_key_by_own_text))]
 pub fn is_key(alloc: Global, text: &[u8]) -> Result<bool, NoMemory>
-    ensures { IfOk result (λ told. told ≡ is_key text.now) }
+    ensures key { IfOk result (λ told. told ≡ is_key text.now) }
+    ensures own_text { IfOk result (λ told. told ≡ is_own_text text.now) }
+{
+    is_own_text(alloc, text)
+}
+
+#[tactic(auto, using(crate::proofs::KeyLemmas::own_text_at_url, crate::proofs::KeyLemmas::own_text_not_url, crate::proofs::KeyLemmas::plain_by_url))]
+fn is_own_text(alloc: Global, text: &[u8]) -> Result<bool, NoMemory>
+    ensures value { IfOk result (λ told. told ≡ is_own_text text.now) }
+    ensures plain { IfOk result (λ told. told ≡ true → list_all is_key_byte text.now ≡ true) }
 {
     match url_of(alloc, text)? {
         Some(url) => Ok(is_key_of(&url, text)),
@@ -93,7 +103,8 @@ pub fn is_key(alloc: Global, text: &[u8]) -> Result<bool, NoMemory>
 
 // Whether this is the URL of a key with that text.
 fn is_key_of(url: &Url, text: &[u8]) -> bool
-    ensures { result ≡ is_key_of text.now (Ok url.now) }
+    ensures value { result ≡ is_key_of text.now (Ok url.now) }
+    ensures valid { IsValid url.now }
 {
     is_served(url.scheme(), true)
         && !has_credentials(url)

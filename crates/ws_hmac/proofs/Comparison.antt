@@ -2,16 +2,16 @@
 use Rattle.std.proofs.Common.{arith, ◌≡◌, ◌<◌, ◌≤◌, ◌+◌, ℕ, Bool, true, false, ◌&&◌, ◌==◌, List, ◌∷◌, length, drop, get_or, refl, bit_or, bit_xor, bytes_eq, sym, ap, ◌∙◌}
 use Rattle.std.proofs.lemmas.Bool.Decides.{same_from_decides, Decides-eqb, Decides-and, Decides-like}
 use Rattle.std.proofs.lemmas.List.{drop_all, drop_more}
-use Rattle.std.proofs.lemmas.Nat.{and_le_l, le_or_l, le_or_r}
+use Rattle.std.proofs.lemmas.Nat.{le_or_l, le_or_r}
 use Rattle.std.specs.Int.Bits.{or_add_and, xor_assoc, xor_self, xor_zero_r}
 
 or_none : (a b : ℕ) → (bit_or a b == 0) ≡ ((a == 0) && (b == 0))
 or_none a b =
     same_from_decides (bit_or a b == 0) ((a == 0) && (b == 0))
     (Decides-like (bit_or a b == 0)
-      (λ none. (omega (arith, le_or_l a b), omega (arith, le_or_r a b)))
-      (λ both. omega (arith, or_add_and a b, both.0, both.1))
-      (Decides-eqb (bit_or a b) 0))
+    (λ none. (omega (arith, le_or_l a b), omega (arith, le_or_r a b)))
+    (λ both. omega (arith, or_add_and a b, both.0, both.1))
+    (Decides-eqb (bit_or a b) 0))
     (Decides-and (a == 0) (b == 0) (Decides-eqb a 0) (Decides-eqb b 0))
 
 same_from_xor : (a b : ℕ) → bit_xor a b ≡ 0 → a ≡ b
@@ -22,7 +22,7 @@ xor_none : (a b : ℕ) → (bit_xor a b == 0) ≡ (a == b)
 xor_none a b =
     same_from_decides (bit_xor a b == 0) (a == b)
     (Decides-like (bit_xor a b == 0) (same_from_xor a b) (λ same. ap (λ x. bit_xor x b) same ∙ xor_self b)
-      (Decides-eqb (bit_xor a b) 0))
+    (Decides-eqb (bit_xor a b) 0))
     (Decides-eqb a b)
 
 and_true : (x : Bool) → x ≡ (x && true)

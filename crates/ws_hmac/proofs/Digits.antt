@@ -1,8 +1,8 @@
 -- Hexadecimal digits in either case: a text decodes to a value exactly where it is, in lower case, the value's digits.
-use Rattle.std.proofs.Common.{arith, ◌≡◌, ◌<◌, ◌≤◌, ◌+◌, ◌*◌, ◌/◌, ◌%◌, ◌==◌, ◌&&◌, ◌⊎◌, inl, inr, ℕ, suc, Bool, true, false, nat_lt, List, [], ◌∷◌, length, map, slice_index, bytes_eq, Option, Some, None, Result, Ok, Err, MatchResult, is_ok, refl, sym, ap, ◌∙◌}
+use Rattle.std.proofs.Common.{arith, ◌≡◌, ◌<◌, ◌+◌, ◌*◌, ◌/◌, ◌%◌, ◌==◌, ◌&&◌, inl, inr, ℕ, suc, Bool, true, false, nat_lt, List, [], ◌∷◌, length, map, slice_index, bytes_eq, Option, Some, None, Result, Ok, Err, MatchResult, is_ok, refl, sym, ap, ◌∙◌}
 use Rattle.std.proofs.lemmas.Bool.{agree_below_at, and_parts, cases_lt, eqb-true, false_from_ne_true, ltb-true}
 use Rattle.std.proofs.lemmas.Bool.Decides.{nat_tests, same_from_decides, Decides-like}
-use Rattle.std.proofs.lemmas.List.{length-map}
+use Rattle.std.proofs.lemmas.List.{get_or_past, length-map}
 use Rattle.std.proofs.lemmas.Slice.Eq.{bytes_eq-Decides}
 use Rattle.std.specs.Bool.{Decides}
 use Rattle.std.specs.Char.{to_ascii_lowercase}
@@ -61,7 +61,7 @@ digit_in_lower_case c v is =
     elim (cases_lt c 103) [
       | inl below ↦
           let test : (nat_lt v 16 && (slice_index lower_digits v == to_ascii_lowercase c)) ≡ true =
-            rw is at (agree_below_at is_read (λ _. true) 103 c refl below) in
+          rw is at (agree_below_at is_read (λ _. true) 103 c refl below) in
           let parts = and_parts _ _ test in
           (ltb-true v 16 parts.0, eqb-true _ _ parts.1)
       | inr above ↦
@@ -119,13 +119,35 @@ decoded_is text value found n r room bytes decoded = by (decode_sized text n) re
     by (Ok read) is h =
         let same : (is_ok r && bytes_eq found value) ≡ bytes_eq read value = rw (h.0, h.1) refl in
         same ∙ same_from_decides (bytes_eq read value) (lowered_is text value)
-          (Decides-like (bytes_eq read value)
-            (λ e. reads_encoded 0 text value (reads_pairs text value n (is ∙ ap Ok e)))
-            (λ e. let reads = sized_reads text value n room bytes e in cc)
-            (bytes_eq-Decides read value))
-          (lowered_decides text value)
+        (Decides-like (bytes_eq read value)
+        (λ e. reads_encoded 0 text value (reads_pairs text value n (is ∙ ap Ok e)))
+        (λ e. let reads = sized_reads text value n room bytes e in cc)
+        (bytes_eq-Decides read value))
+        (lowered_decides text value)
     by (Err e) is h =
         let refused : (is_ok r && bytes_eq found value) ≡ false = rw h refl in
         refused ∙ sym (false_from_ne_true (lowered_is text value) (λ t.
-          let reads = sized_reads text value n room bytes ((lowered_decides text value).0 t) in
-          cc))
+        let reads = sized_reads text value n room bytes ((lowered_decides text value).0 t) in
+        cc))
+
+-- ---- a signature's own digits
+
+digit_is_lower : (d : ℕ) → to_ascii_lowercase (slice_index lower_digits d) ≡ slice_index lower_digits d
+digit_is_lower d =
+    elim (cases_lt d 16) [
+      | inl below ↦
+          eqb-true _ _ (agree_below_at (λ k. to_ascii_lowercase (slice_index lower_digits k) == slice_index lower_digits k)
+          (λ _. true) 16 d refl below)
+      | inr above ↦
+          let none : slice_index lower_digits d ≡ 0 = get_or_past lower_digits d 0 above in
+          rw none refl
+    ]
+
+encoded_is_lower : (value : List ℕ) → map to_ascii_lowercase (encode_lower value) ≡ encode_lower value
+unfolding encode_with
+encoded_is_lower [] = refl
+encoded_is_lower (x ∷ xs) = rw (digit_is_lower (x / 16), digit_is_lower (x % 16), encoded_is_lower xs) refl
+
+-- the digits of a value are its digits in lower case
+pub lowered_is_encoded : (value : List ℕ) → lowered_is (encode_lower value) value ≡ true
+lowered_is_encoded value = (lowered_decides (encode_lower value) value).1 (encoded_is_lower value)

@@ -21,12 +21,12 @@ pub trait Hash<const B: usize, const N: usize> {
 pub struct UseSha1;
 
 impl Hash<64, 20> for UseSha1 {
-    ghost use Rattle.std.proofs.Common.{arith};
+    ghost use Rattle.std.proofs.Common.{lit<};
     ghost use Rattle.sha1.specs.Sha1.{sha1};
 
     ghost hash = { sha1 };
 
-    ghost small = { Prim.omega arith };
+    ghost small = { lit< tt };
 
     fn digest(first: &[u8], second: &[u8]) -> [u8; 20] {
         let mut hasher = Sha1::new();
@@ -40,12 +40,12 @@ impl Hash<64, 20> for UseSha1 {
 pub struct UseSha256;
 
 impl Hash<64, 32> for UseSha256 {
-    ghost use Rattle.std.proofs.Common.{arith};
+    ghost use Rattle.std.proofs.Common.{lit<};
     ghost use Rattle.sha2.specs.Sha256.{sha256};
 
     ghost hash = { sha256 };
 
-    ghost small = { Prim.omega arith };
+    ghost small = { lit< tt };
 
     fn digest(first: &[u8], second: &[u8]) -> [u8; 32] {
         digest_by::<Sha256>(first, second)
@@ -56,12 +56,12 @@ impl Hash<64, 32> for UseSha256 {
 pub struct UseSha384;
 
 impl Hash<128, 48> for UseSha384 {
-    ghost use Rattle.std.proofs.Common.{arith};
+    ghost use Rattle.std.proofs.Common.{lit<};
     ghost use Rattle.sha2.specs.Sha512.{sha384};
 
     ghost hash = { sha384 };
 
-    ghost small = { Prim.omega arith };
+    ghost small = { lit< tt };
 
     fn digest(first: &[u8], second: &[u8]) -> [u8; 48] {
         digest_by::<Sha384>(first, second)
@@ -72,12 +72,12 @@ impl Hash<128, 48> for UseSha384 {
 pub struct UseSha512;
 
 impl Hash<128, 64> for UseSha512 {
-    ghost use Rattle.std.proofs.Common.{arith};
+    ghost use Rattle.std.proofs.Common.{lit<};
     ghost use Rattle.sha2.specs.Sha512.{sha512};
 
     ghost hash = { sha512 };
 
-    ghost small = { Prim.omega arith };
+    ghost small = { lit< tt };
 
     fn digest(first: &[u8], second: &[u8]) -> [u8; 64] {
         digest_by::<Sha512>(first, second)

@@ -3,10 +3,12 @@
 
 mod hashes;
 mod keyed;
+mod laws;
 mod signatures;
 #[cfg(test)]
 mod tests;
 
 pub use hashes::{Hash, UseSha1, UseSha256, UseSha384, UseSha512};
 pub use keyed::hmac;
+pub use laws::own_signature_checks;
 pub use signatures::{check, signature};

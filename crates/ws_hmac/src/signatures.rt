@@ -42,17 +42,12 @@ macro_rules! with_hmac {
 /// (WebSub section 7.1).
 ///
 /// It fails only where memory does.
-pub fn signature(
-    alloc: Global,
-    alg: Alg,
-    secret: &[u8],
-    body: &[u8],
-) -> Result<Bytes, NoMemory>
+pub fn signature(alloc: Global, alg: Alg, secret: &[u8], body: &[u8]) -> Result<Bytes, NoMemory>
     ensures { IfOk result (λ text. text ≡ sign alg secret.now body.now) }
 {
     let digits = with_hmac!(alg, secret, body, |value| hex::encode(alloc, value)?);
-    let prefix = prefix(alg);
-    let text = format!(in alloc; "{prefix}{digits}")?;
+    let method = prefix(alg);
+    let text = format!(in alloc; "{method}{digits}")?;
     Ok(Bytes::from_vec(text.into_bytes()))
 }
 
@@ -102,11 +97,9 @@ fn is_hex_of(text: &[u8], value: &[u8]) -> bool
 
 // Whether two lists of bytes are the same. Each byte is compared, wherever the first difference is.
 fn is_same(found: &[u8], wanted: &[u8]) -> bool
+    requires { length found.now ≡ length wanted.now }
     ensures { result ≡ bytes_eq found.now wanted.now }
 {
-    if found.len() != wanted.len() {
-        return false;
-    }
     let mut difference = 0;
     for (i, byte) in found.iter().enumerate() {
         difference |= byte ^ wanted[i];

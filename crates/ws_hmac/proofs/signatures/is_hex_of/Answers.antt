@@ -1,4 +1,4 @@
-use Rattle.std.proofs.Common.{arith, ◌≡◌, ◌≤◌, ◌&&◌, ℕ, List, length, bytes_eq, take, replicate, is_ok, sym, ap, ◌∙◌}
+use Rattle.std.proofs.Common.{arith, ◌≡◌, ◌≤◌, ◌&&◌, ℕ, List, length, bytes_eq, take, replicate, sym, ap, ◌∙◌}
 use Rattle.std.proofs.lemmas.List.{length-replicate, length-take-le}
 use Rattle.ws_hmac.proofs.Digits.{decoded_is}
 use Rattle.ws_hmac.proofs.signatures.is_hex_of.Goals as goal
@@ -14,7 +14,7 @@ returns-then-is_ok c =
     c.is_same.ensures
     ∙ ap (λ ok. ok && bytes_eq found value) (sym c.if-is_ok.true ∙ c.is_ok.ensures.value)
     ∙ decoded_is c.args.text.now value found _ c.decode_to_slice.result (room value c.requires)
-      (λ i. omega (arith, c.type_inv.value i)) c.decode_to_slice.ensures.value
+    (λ i. omega (arith, c.type_inv.value i)) c.decode_to_slice.ensures.value
 
 pub returns-else-is_ok : goal.returns-else-is_ok
 returns-else-is_ok c =
@@ -23,4 +23,4 @@ returns-else-is_ok c =
     c.if-is_ok.false
     ∙ ap (λ ok. ok && bytes_eq found value) (sym c.if-is_ok.false ∙ c.is_ok.ensures.value)
     ∙ decoded_is c.args.text.now value found _ c.decode_to_slice.result (room value c.requires)
-      (λ i. omega (arith, c.type_inv.value i)) c.decode_to_slice.ensures.value
+    (λ i. omega (arith, c.type_inv.value i)) c.decode_to_slice.ensures.value

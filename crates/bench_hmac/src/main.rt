@@ -3,7 +3,11 @@
 //! `bench/signatures.sh` measures it against `openssl dgst -hmac`.
 #![tactic(auto)]
 
-use anyhow::{Context, Result, bail};
+ghost use Rattle.std.specs.Prelude.{◌≡◌, ◌≢◌, IfNone, IfSome};
+ghost use Rattle.ws_hmac.specs.Sign.{method_of};
+ghost use Rattle.ws_model.specs.declared.event.Alg.{Alg};
+
+use anyhow::{Context, Result};
 use std::{env, fs};
 use ws_hmac::signature;
 use ws_model::Alg;
@@ -12,7 +16,7 @@ fn main(rt: HostRuntime) -> Result<()> {
     let mut words = env::args(&rt)?;
     let _program = words.next();
     let method = words.next().context("a method is missing")?;
-    let alg = alg_of(method.as_str())?;
+    let alg = method_named(method.as_str()).context(format_args!("no method {method}"))?;
     let secret = words.next().context("a secret is missing")?;
     for path in words {
         let body = fs::read(&rt, path.as_str()).context(format_args!("reading {path}"))?;
@@ -23,12 +27,16 @@ fn main(rt: HostRuntime) -> Result<()> {
     Ok(())
 }
 
-fn alg_of(method: &str) -> Result<Alg> {
-    match method {
-        "sha1" => Ok(Alg::Sha1),
-        "sha256" => Ok(Alg::Sha256),
-        "sha384" => Ok(Alg::Sha384),
-        "sha512" => Ok(Alg::Sha512),
-        _ => bail!("no method {method}"),
+// The method of this name.
+fn method_named(name: &str) -> Option<Alg>
+    ensures found { IfSome result (λ alg. method_of alg ≡ name.now) }
+    ensures none { IfNone result ((alg : Alg) → method_of alg ≢ name.now) }
+{
+    match name {
+        "sha1" => Some(Alg::Sha1),
+        "sha256" => Some(Alg::Sha256),
+        "sha384" => Some(Alg::Sha384),
+        "sha512" => Some(Alg::Sha512),
+        _ => None,
     }
 }

@@ -10,12 +10,16 @@ use Rattle.ws_model.specs.declared.event.Alg.{Alg}
 use Rattle.ws_model.specs.declared.event.Alg.TheVariants.{Sha1, Sha256, Sha384, Sha512}
 use Rattle.ws_hmac.specs.Hmac.{hmac_of}
 
--- the method's name and the `=` behind it
+-- the name of a method
+abbrev pub method_of : Alg → List ℕ
+method_of Sha1 = codes "sha1"
+method_of Sha256 = codes "sha256"
+method_of Sha384 = codes "sha384"
+method_of Sha512 = codes "sha512"
+
+-- what stands before the digits
 abbrev pub prefix_of : Alg → List ℕ
-prefix_of Sha1 = codes "sha1="
-prefix_of Sha256 = codes "sha256="
-prefix_of Sha384 = codes "sha384="
-prefix_of Sha512 = codes "sha512="
+prefix_of alg = method_of alg ++ codes "="
 
 -- the HMAC of a method (FIPS 180-4 for the hashes and the bytes of their blocks)
 abbrev pub hmac_by : Alg → List ℕ → List ℕ → List ℕ

@@ -1,0 +1,6 @@
+pub mod Characters
+pub mod Grammar
+pub mod Fault
+pub mod Machine
+pub mod Text
+pub mod Words

@@ -1,0 +1,26 @@
+-- What the disks in memory are (own).
+use Rattle.std.specs.Prelude.{ℕ, ◌+◌, Bool, ◌||◌, ◌==◌, nat_le, nat_lt, List, length}
+use Rattle.std.specs.List.{list_any}
+use Rattle.ws_disk.specs.declared.log.CallLog.{CallLog}
+use Rattle.ws_disk.specs.declared.memory.MemDisk.{MemDisk}
+use Rattle.ws_disk.specs.Record.{Step, steps_of}
+
+-- the calls of a record, the newest first
+abbrev pub log_steps : CallLog → List Step
+log_steps log = steps_of log.calls.items log.written.items
+
+-- what a read gives
+abbrev pub disk_content : MemDisk → List ℕ
+disk_content disk = disk.content.items
+
+-- the calls that were made since the disk was made, the newest first
+abbrev pub disk_steps : MemDisk → List Step
+disk_steps disk = log_steps disk.log
+
+-- the next call is one of those that are made to fail, or it is past the record
+abbrev pub is_refused : MemDisk → Bool
+is_refused disk = nat_le disk.log.most (length disk.log.calls.items) || list_any (λ n. n == length disk.log.calls.items) disk.failing.items
+
+-- a write there of so many bytes passes the room, or the bytes don't fit the record
+abbrev pub is_too_long : MemDisk → ℕ → ℕ → Bool
+is_too_long disk at count = nat_lt disk.log.room (at + count) || nat_lt disk.log.room (length disk.log.written.items + count)

@@ -99,16 +99,16 @@ fn read_full(file: &File, at: u64, into: &mut [u8]) -> io::Result<usize>
     let mut done = 0;
     'pieces: for _ in 0..u64::MAX {
         if done >= into.len() {
-            break;
+            return Ok(done);
         }
         match file.read_at(&mut into[done..], at.saturating_add(done as u64)) {
-            Ok(0) => break,
+            Ok(0) => return Ok(done),
             Ok(count) => done += count,
             Err(error) if error.kind() == io::ErrorKind::Interrupted => {}
             Err(error) => return Err(error),
         }
     }
-    Ok(done)
+    Err(io::ErrorKind::Interrupted.into())
 }
 
 // Counts a failure as a fault.

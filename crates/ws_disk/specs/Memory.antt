@@ -1,5 +1,5 @@
 -- What the disks in memory are (own).
-use Rattle.std.specs.Prelude.{ℕ, ◌+◌, Bool, ◌||◌, ◌==◌, nat_le, nat_lt, List, length}
+use Rattle.std.specs.Prelude.{◌≡◌, ℕ, ◌+◌, min, Bool, ◌||◌, ◌==◌, nat_le, nat_lt, List, length}
 use Rattle.std.specs.List.{list_any}
 use Rattle.ws_disk.specs.declared.log.CallLog.{CallLog}
 use Rattle.ws_disk.specs.declared.memory.MemDisk.{MemDisk}
@@ -24,3 +24,18 @@ is_refused disk = nat_le disk.log.most (length disk.log.calls.items) || list_any
 -- a write there of so many bytes passes the room, or the bytes don't fit the record
 abbrev pub is_too_long : MemDisk → ℕ → ℕ → Bool
 is_too_long disk at count = nat_lt disk.log.room (at + count) || nat_lt disk.log.room (length disk.log.written.items + count)
+
+-- how often it failed
+abbrev pub disk_faults : MemDisk → ℕ
+disk_faults disk = disk.faults
+
+-- the numbers of the calls that are made to fail, how many calls the record holds, and the room
+pub record IsPlanned (room calls : ℕ) (failing : List ℕ) (disk : MemDisk) : Type 0 where
+  pub failing_are : disk.failing.items ≡ failing
+  pub calls_are : disk.log.most ≡ calls
+  pub room_is : disk.log.room ≡ room
+
+-- a call was numbered, as far as the record goes, and the plan is as before
+pub record IsNumbered (old new : MemDisk) : Type 0 where
+  pub plan : IsPlanned old.log.room old.log.most old.failing.items new
+  pub number : length new.log.calls.items ≡ min (length old.log.calls.items + 1) old.log.most

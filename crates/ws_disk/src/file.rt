@@ -75,6 +75,13 @@ impl FileDisk {
             faults: 0,
         }
     }
+
+    /// How many calls failed.
+    pub fn faults(&self) -> u64
+        ensures { result ≡ self.now.faults }
+    {
+        self.faults
+    }
 }
 
 // Opens the file, and confirms its name in its folder, so that a file that was made outlives a crash.

@@ -28,6 +28,7 @@ pub(crate) struct CallLog {
     /// How many bytes it can hold.
     pub(crate) room: usize,
     ghost counted: { count_all calls.items ≡ length written.items },
+    ghost calls_within: { length calls.items ≤ most },
     ghost calls_fit: { most ≤ vec_capacity calls },
     ghost bytes_within: { length written.items ≤ room },
     ghost bytes_fit: { room ≤ vec_capacity written },

@@ -27,7 +27,7 @@ pub struct MemDisk {
 impl MemDisk {
     ghost use Rattle.ws_disk.specs.Record.{Calm};
     ghost use Rattle.ws_disk.specs.Cause.{HasCause, Rose};
-    ghost use Rattle.ws_disk.specs.Memory.{disk_content, disk_steps, is_refused, is_too_long};
+    ghost use Rattle.ws_disk.specs.Memory.{disk_content, disk_steps, disk_faults, is_refused, is_too_long, IsPlanned, IsNumbered};
 
     /// An empty disk with room for so many bytes. Its record has room for so many calls, and for as
     /// many written bytes as the disk. The calls whose numbers stand in `failing`, from 0, fail; so
@@ -36,7 +36,8 @@ impl MemDisk {
     pub fn made(alloc: Global, room: u64, calls: u64, failing: &[u64]) -> Result<MemDisk, NoMemory>
         ensures content { IfOk result (λ disk. disk_content disk ≡ []) }
         ensures calls { IfOk result (λ disk. disk_steps disk ≡ []) }
-        ensures faults { IfOk result (λ disk. disk.faults ≡ 0) }
+        ensures faults { IfOk result (λ disk. disk_faults disk ≡ 0) }
+        ensures plan { IfOk result (IsPlanned room calls failing.now) }
     {
         MemDisk::holding(alloc, &[], room, calls, failing)
     }
@@ -52,7 +53,8 @@ impl MemDisk {
         requires { length bytes.now ≤ room }
         ensures content { IfOk result (λ disk. disk_content disk ≡ bytes.now) }
         ensures calls { IfOk result (λ disk. disk_steps disk ≡ []) }
-        ensures faults { IfOk result (λ disk. disk.faults ≡ 0) }
+        ensures faults { IfOk result (λ disk. disk_faults disk ≡ 0) }
+        ensures plan { IfOk result (IsPlanned room calls failing.now) }
     {
         let mut content = Vec::with_capacity(alloc, room as usize)?;
         content.extend_from_slice(bytes)?;
@@ -72,6 +74,13 @@ impl MemDisk {
         &self.content
     }
 
+    /// How many calls failed.
+    pub fn faults(&self) -> u64
+        ensures { result ≡ disk_faults self.now }
+    {
+        self.faults
+    }
+
     fn is_refused(&self) -> bool
         ensures { result ≡ is_refused self.now }
     {
@@ -89,6 +98,7 @@ impl MemDisk {
     fn rest(&mut self)
         ensures content { disk_content self.new ≡ disk_content self.old }
         ensures faults { self.new.faults ≡ self.old.faults }
+        ensures numbered { IsNumbered self.old self.new }
         ensures calm { Calm self.old.first.items self.new.first.items (disk_steps self.old) (disk_steps self.new) }
         ensures rises { length self.old.log.calls.items < self.old.log.most → length (disk_steps self.old) < length (disk_steps self.new) }
     {
@@ -101,6 +111,7 @@ impl MemDisk {
         ensures content { disk_content self.new ≡ disk_content self.old }
         ensures rose { Rose self.old.faults self.new.faults }
         ensures later { self.old.faults ≤ self.new.faults }
+        ensures numbered { IsNumbered self.old self.new }
         ensures calm { Calm self.old.first.items self.new.first.items (disk_steps self.old) (disk_steps self.new) }
     {
         self.faults = self.faults.saturating_add(1);
@@ -111,6 +122,7 @@ impl MemDisk {
     // A look at the size or the bytes.
     fn look(&mut self) -> Result<(), DiskFailed>
         ensures content { disk_content self.new ≡ disk_content self.old }
+        ensures numbered { IsNumbered self.old self.new }
         ensures calm { Calm self.old.first.items self.new.first.items (disk_steps self.old) (disk_steps self.new) }
         ensures rises { OnOk result (length (disk_steps self.old) < length (disk_steps self.new)) }
         ensures cause { HasCause self.old.faults self.new.faults result }
@@ -126,7 +138,9 @@ impl MemDisk {
 
 impl Disk for MemDisk {
     ghost use Rattle.ws_disk.specs.Record.{content_image, LeavesSince-grow};
-    ghost use Rattle.ws_disk.specs.Memory.{disk_content, disk_steps};
+    ghost use Rattle.ws_disk.specs.Record.{Calm};
+    ghost use Rattle.ws_disk.specs.Cause.{HasCause};
+    ghost use Rattle.ws_disk.specs.Memory.{disk_content, disk_steps, is_refused, is_too_long, IsNumbered};
 
     ghost seen = { disk_content };
 
@@ -142,7 +156,15 @@ impl Disk for MemDisk {
 
     ghost images_grow = { λ disk t later image _. LeavesSince-grow disk.first.items (disk_steps disk) t later image };
 
-    fn size(&mut self) -> Result<u64, DiskFailed> {
+    fn size(&mut self) -> Result<u64, DiskFailed>
+        ensures size { IfOk result (λ n. n ≡ length (disk_content self.old)) }
+        ensures refused { IsTrue (is_refused self.old) ↔ IsErr result }
+        ensures numbered { IsNumbered self.old self.new }
+        ensures seen { disk_content self.new ≡ disk_content self.old }
+        ensures calm { Calm self.old.first.items self.new.first.items (disk_steps self.old) (disk_steps self.new) }
+        ensures rises { OnOk result (length (disk_steps self.old) < length (disk_steps self.new)) }
+        ensures cause { HasCause self.old.faults self.new.faults result }
+    {
         self.look()?;
         Ok(self.content.len() as u64)
     }

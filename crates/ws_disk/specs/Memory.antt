@@ -3,7 +3,7 @@ use Rattle.std.specs.Prelude.{◌≡◌, ℕ, ◌+◌, min, Bool, ◌||◌, ◌=
 use Rattle.std.specs.List.{list_any}
 use Rattle.ws_disk.specs.declared.log.CallLog.{CallLog}
 use Rattle.ws_disk.specs.declared.memory.MemDisk.{MemDisk}
-use Rattle.ws_disk.specs.Record.{Step, steps_of}
+use Rattle.ws_disk.specs.Record.{Step, steps_of, LeavesSince, Calm}
 
 -- the calls of a record, the newest first
 abbrev pub log_steps : CallLog → List Step
@@ -16,6 +16,18 @@ disk_content disk = disk.content.items
 -- the calls that were made since the disk was made, the newest first
 abbrev pub disk_steps : MemDisk → List Step
 disk_steps disk = log_steps disk.log
+
+-- the moment is the number of calls
+abbrev pub disk_moment : MemDisk → ℕ
+disk_moment disk = length (disk_steps disk)
+
+-- what a crash at some moment from that one on might have left
+abbrev pub disk_images : MemDisk → ℕ → List ℕ → Type 0
+disk_images disk = LeavesSince disk.first.items (disk_steps disk)
+
+-- a crash leaves nothing that it wouldn't have left before the call
+abbrev pub IsCalm : MemDisk → MemDisk → Type 0
+IsCalm old new = Calm old.first.items new.first.items (disk_steps old) (disk_steps new)
 
 -- the next call is one of those that are made to fail, or it is past the record
 abbrev pub is_refused : MemDisk → Bool

@@ -1,5 +1,5 @@
 // A disk in memory, which is honest: it keeps every call, and a crash may leave all that the crash model allows.
-ghost use Rattle.std.specs.Prelude.{◌≡◌, ◌+◌, ◌≤◌, ◌<◌, [], length, IsTrue, IsErr, IfOk, OnOk, vec_capacity, ◌↔◌, ◌^◌, ◌-◌};
+ghost use Rattle.std.specs.Prelude.{◌≡◌, ◌+◌, ◌≤◌, ◌<◌, [], length, IsTrue, IsErr, IfOk, OnOk, vec_capacity, ◌↔◌, ◌||◌, ◌-◌, OnErr, min, take, drop};
 ghost use Rattle.ws_disk.specs.Record.{content_after, steps_of, LeavesSince};
 
 use crate::content::{copy_from, overwrite};
@@ -25,9 +25,8 @@ pub struct MemDisk {
 }
 
 impl MemDisk {
-    ghost use Rattle.ws_disk.specs.Record.{Calm};
     ghost use Rattle.ws_disk.specs.Cause.{HasCause, Rose};
-    ghost use Rattle.ws_disk.specs.Memory.{disk_content, disk_steps, disk_faults, is_refused, is_too_long, IsPlanned, IsNumbered};
+    ghost use Rattle.ws_disk.specs.Memory.{disk_content, disk_steps, disk_moment, disk_faults, is_refused, is_too_long, IsCalm, IsPlanned, IsNumbered};
 
     /// An empty disk with room for so many bytes. Its record has room for so many calls, and for as
     /// many written bytes as the disk. The calls whose numbers stand in `failing`, from 0, fail; so
@@ -97,10 +96,10 @@ impl MemDisk {
     // A call that changes nothing.
     fn rest(&mut self)
         ensures content { disk_content self.new ≡ disk_content self.old }
-        ensures faults { self.new.faults ≡ self.old.faults }
+        ensures faults { disk_faults self.new ≡ disk_faults self.old }
         ensures numbered { IsNumbered self.old self.new }
-        ensures calm { Calm self.old.first.items self.new.first.items (disk_steps self.old) (disk_steps self.new) }
-        ensures rises { length self.old.log.calls.items < self.old.log.most → length (disk_steps self.old) < length (disk_steps self.new) }
+        ensures calm { IsCalm self.old self.new }
+        ensures rises { length self.old.log.calls.items < self.old.log.most → disk_moment self.old < disk_moment self.new }
     {
         if !self.log.is_full() {
             self.log.note(Call::Idle, &[]);
@@ -109,10 +108,10 @@ impl MemDisk {
 
     fn fail(&mut self) -> DiskFailed
         ensures content { disk_content self.new ≡ disk_content self.old }
-        ensures rose { Rose self.old.faults self.new.faults }
-        ensures later { self.old.faults ≤ self.new.faults }
+        ensures rose { Rose (disk_faults self.old) (disk_faults self.new) }
+        ensures later { disk_faults self.old ≤ disk_faults self.new }
         ensures numbered { IsNumbered self.old self.new }
-        ensures calm { Calm self.old.first.items self.new.first.items (disk_steps self.old) (disk_steps self.new) }
+        ensures calm { IsCalm self.old self.new }
     {
         self.faults = self.faults.saturating_add(1);
         self.rest();
@@ -123,9 +122,9 @@ impl MemDisk {
     fn look(&mut self) -> Result<(), DiskFailed>
         ensures content { disk_content self.new ≡ disk_content self.old }
         ensures numbered { IsNumbered self.old self.new }
-        ensures calm { Calm self.old.first.items self.new.first.items (disk_steps self.old) (disk_steps self.new) }
-        ensures rises { OnOk result (length (disk_steps self.old) < length (disk_steps self.new)) }
-        ensures cause { HasCause self.old.faults self.new.faults result }
+        ensures calm { IsCalm self.old self.new }
+        ensures rises { OnOk result (disk_moment self.old < disk_moment self.new) }
+        ensures cause { HasCause (disk_faults self.old) (disk_faults self.new) result }
         ensures refused { IsTrue (is_refused self.old) ↔ IsErr result }
     {
         if self.is_refused() {
@@ -138,17 +137,17 @@ impl MemDisk {
 
 impl Disk for MemDisk {
     ghost use Rattle.ws_disk.specs.Record.{content_image, LeavesSince-grow};
-    ghost use Rattle.ws_disk.specs.Record.{Calm};
     ghost use Rattle.ws_disk.specs.Cause.{HasCause};
-    ghost use Rattle.ws_disk.specs.Memory.{disk_content, disk_steps, is_refused, is_too_long, IsNumbered};
+    ghost use Rattle.ws_disk.specs.Crash.{overwritten, Torn, Cut, Follows, NoMore, Only, Elapses};
+    ghost use Rattle.ws_disk.specs.Memory.{disk_content, disk_steps, disk_moment, disk_images, disk_faults, is_refused, is_too_long, IsCalm, IsNumbered};
 
     ghost seen = { disk_content };
 
-    ghost faults = { λ disk. disk.faults };
+    ghost faults = { disk_faults };
 
-    ghost moment = { λ disk. length (disk_steps disk) };
+    ghost moment = { disk_moment };
 
-    ghost images = { λ disk. LeavesSince disk.first.items (disk_steps disk) };
+    ghost images = { disk_images };
 
     ghost honest = { λ _. Unit {0} };
 
@@ -161,20 +160,41 @@ impl Disk for MemDisk {
         ensures refused { IsTrue (is_refused self.old) ↔ IsErr result }
         ensures numbered { IsNumbered self.old self.new }
         ensures seen { disk_content self.new ≡ disk_content self.old }
-        ensures calm { Calm self.old.first.items self.new.first.items (disk_steps self.old) (disk_steps self.new) }
-        ensures rises { OnOk result (length (disk_steps self.old) < length (disk_steps self.new)) }
-        ensures cause { HasCause self.old.faults self.new.faults result }
+        ensures calm { IsCalm self.old self.new }
+        ensures rises { OnOk result (disk_moment self.old < disk_moment self.new) }
+        ensures cause { HasCause (disk_faults self.old) (disk_faults self.new) result }
     {
         self.look()?;
         Ok(self.content.len() as u64)
     }
 
-    fn read_at(&mut self, at: u64, into: &mut [u8]) -> Result<usize, DiskFailed> {
+    fn read_at(&mut self, at: u64, into: &mut [u8]) -> Result<usize, DiskFailed>
+        ensures room { IfOk result (λ n. n ≤ length into.old) }
+        ensures count { IfOk result (λ n. n ≡ min (length into.old) (length (disk_content self.old) - at)) }
+        ensures bytes { IfOk result (λ n. take n into.new ≡ take n (drop at (disk_content self.old))) }
+        ensures refused { IsTrue (is_refused self.old) ↔ IsErr result }
+        ensures numbered { IsNumbered self.old self.new }
+        ensures seen { disk_content self.new ≡ disk_content self.old }
+        ensures calm { IsCalm self.old self.new }
+        ensures rises { OnOk result (disk_moment self.old < disk_moment self.new) }
+        ensures cause { HasCause (disk_faults self.old) (disk_faults self.new) result }
+    {
         self.look()?;
         Ok(copy_from(&self.content, at, into))
     }
 
-    fn write_at(&mut self, at: u64, bytes: &[u8]) -> Result<(), DiskFailed> {
+    fn write_at(&mut self, at: u64, bytes: &[u8]) -> Result<(), DiskFailed>
+        requires { at ≤ length (disk_content self.old) }
+        ensures written { OnOk result (disk_content self.new ≡ overwritten at bytes.now (disk_content self.old)) }
+        ensures unchanged { OnErr result (disk_content self.new ≡ disk_content self.old) }
+        ensures partly { OnErr result (Torn at (length bytes.now) (disk_content self.old) (disk_content self.new)) }
+        ensures refused { IsTrue (is_refused self.old || is_too_long self.old at (length bytes.now)) ↔ IsErr result }
+        ensures crash { Follows (Torn at (length bytes.now)) (disk_images self.old (disk_moment self.old)) (disk_images self.new (disk_moment self.new)) }
+        ensures time { Elapses (disk_moment self.old) (disk_moment self.new) (disk_images self.old) (disk_images self.new) }
+        ensures rises { OnOk result (disk_moment self.old < disk_moment self.new) }
+        ensures numbered { IsNumbered self.old self.new }
+        ensures cause { HasCause (disk_faults self.old) (disk_faults self.new) result }
+    {
         if self.is_refused() || self.is_too_long(at, bytes.len()) {
             return Err(self.fail());
         }
@@ -184,7 +204,18 @@ impl Disk for MemDisk {
         Ok(())
     }
 
-    fn cut(&mut self, size: u64) -> Result<(), DiskFailed> {
+    fn cut(&mut self, size: u64) -> Result<(), DiskFailed>
+        requires { size ≤ length (disk_content self.old) }
+        ensures cut { OnOk result (disk_content self.new ≡ take size (disk_content self.old)) }
+        ensures unchanged { OnErr result (disk_content self.new ≡ disk_content self.old) }
+        ensures partly { OnErr result (Cut size (disk_content self.old) (disk_content self.new)) }
+        ensures refused { IsTrue (is_refused self.old) ↔ IsErr result }
+        ensures crash { Follows (Cut size) (disk_images self.old (disk_moment self.old)) (disk_images self.new (disk_moment self.new)) }
+        ensures time { Elapses (disk_moment self.old) (disk_moment self.new) (disk_images self.old) (disk_images self.new) }
+        ensures rises { OnOk result (disk_moment self.old < disk_moment self.new) }
+        ensures numbered { IsNumbered self.old self.new }
+        ensures cause { HasCause (disk_faults self.old) (disk_faults self.new) result }
+    {
         if self.is_refused() {
             return Err(self.fail());
         }
@@ -193,7 +224,16 @@ impl Disk for MemDisk {
         Ok(())
     }
 
-    fn sync(&mut self) -> Result<(), DiskFailed> {
+    fn sync(&mut self) -> Result<(), DiskFailed>
+        ensures durable { OnOk result (Only (disk_content self.old) (disk_images self.new (disk_moment self.new))) }
+        ensures refused { IsTrue (is_refused self.old) ↔ IsErr result }
+        ensures seen { disk_content self.new ≡ disk_content self.old }
+        ensures crash { NoMore (disk_images self.old (disk_moment self.old)) (disk_images self.new (disk_moment self.new)) }
+        ensures time { Elapses (disk_moment self.old) (disk_moment self.new) (disk_images self.old) (disk_images self.new) }
+        ensures rises { OnOk result (disk_moment self.old < disk_moment self.new) }
+        ensures numbered { IsNumbered self.old self.new }
+        ensures cause { HasCause (disk_faults self.old) (disk_faults self.new) result }
+    {
         if self.is_refused() {
             return Err(self.fail());
         }

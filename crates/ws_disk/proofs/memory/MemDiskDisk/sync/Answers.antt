@@ -2,7 +2,7 @@ use Rattle.ws_disk.proofs.Moments.{after_sync, only_after_sync}
 use Rattle.ws_disk.proofs.memory.MemDiskDisk.sync.Goals as goal
 
 pub returns-clause-crash : goal.returns-clause-crash
-returns-clause-crash c = λ _. after_sync _ _ _ c.note.ensures.steps
+returns-clause-crash c = after_sync _ _ _ c.note.ensures.steps
 
 pub returns-clause-durable : goal.returns-clause-durable
-returns-clause-durable c = λ _. only_after_sync _ _ _ _ c.args.self.now.held c.note.ensures.steps
+returns-clause-durable c = only_after_sync _ _ _ _ c.args.self.now.held c.note.ensures.steps

@@ -1,0 +1,4 @@
+mod GateFile
+pub mod Goes
+mod Moments
+mod Pushed

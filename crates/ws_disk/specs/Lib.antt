@@ -1,0 +1,5 @@
+pub mod Cause
+pub mod Crash
+pub mod Gated
+pub mod Memory
+pub mod Record

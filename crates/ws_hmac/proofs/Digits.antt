@@ -20,7 +20,7 @@ value_in_lower_case c = grind (arith, nat_tests)
 digit_reads : (c v : ℕ) → v < 16 → to_ascii_lowercase c ≡ slice_index lower_digits v → hex_digit_value c ≡ Some v
 digit_reads c v small is = sym (value_in_lower_case c) ∙ ap hex_digit_value is ∙ IsDigits-lower_digits v small
 
--- the lower case of a digit is the table's digit of its value
+-- a text that is in lower case the digits of a value decodes to it
 pub encoded_reads : (i : ℕ) (text value : List ℕ) → IsBytes value
     → map to_ascii_lowercase text ≡ encode_lower value → decode_pairs i text ≡ Ok value
 unfolding encode_with decode_pairs

@@ -38,10 +38,11 @@ pub fn place(alloc: Global, key: &Key) -> Result<Place, NoMemory>
 pub fn path_and_query(alloc: Global, place: &Place) -> Result<Bytes, NoMemory>
     ensures { IfOk result (λ text. text ≡ path_and_query place.now) }
 {
+    let query = place.query.as_slice();
     let mut text = place.path.as_slice().to_vec(alloc)?;
-    if !place.query.as_slice().is_empty() {
+    if !query.is_empty() {
         text.push(b'?')?;
-        text.extend_from_slice(place.query.as_slice())?;
+        text.extend_from_slice(query)?;
     }
     Ok(Bytes::from_vec(text))
 }
@@ -51,10 +52,11 @@ pub fn path_and_query(alloc: Global, place: &Place) -> Result<Bytes, NoMemory>
 pub fn with_query(alloc: Global, place: &Place, pairs: &[Pair]) -> Result<Bytes, NoMemory>
     ensures { IfOk result (λ text. text ≡ with_query place.now pairs.now) }
 {
+    let own_query = place.query.as_slice();
     let mut text = place.path.as_slice().to_vec(alloc)?;
     text.push(b'?')?;
-    if !place.query.as_slice().is_empty() {
-        text.extend_from_slice(place.query.as_slice())?;
+    if !own_query.is_empty() {
+        text.extend_from_slice(own_query)?;
         text.push(b'&')?;
     }
     text.extend_from_slice(form_of(alloc, pairs)?.as_slice())?;

@@ -1,6 +1,6 @@
 // What is wanted here was worked out by hand from the grammar of RFC 8288, section 3, and the
 // tokens and quoted strings of RFC 9110, sections 5.6.2 to 5.6.4.
-use crate::{LinkFault, LinkItem, read_links, rel_targets, write_links};
+use crate::{LinkFault, read_links, rel_targets, write_links};
 use std::alloc::{AllocError, Global};
 use std::test::Fail;
 use ws_model::{Bytes, NoMemory, Pair};
@@ -141,9 +141,7 @@ fn link_field_targets(rt: HostRuntime) -> Result<(), Fail> {
     Ok(())
 }
 
-fn pair(alloc: Global, name: &[u8], value: &[u8]) -> Result<Pair, NoMemory>
-    ensures { IfOk result (λ p. (p.name ≡ name.now) × (p.value ≡ value.now)) }
-{
+fn pair(alloc: Global, name: &[u8], value: &[u8]) -> Result<Pair, NoMemory> {
     Ok(Pair {
         name: Bytes::copy(alloc, name)?,
         value: Bytes::copy(alloc, value)?,
@@ -153,11 +151,20 @@ fn pair(alloc: Global, name: &[u8], value: &[u8]) -> Result<Pair, NoMemory>
 #[test]
 fn links_written(rt: HostRuntime) -> Result<(), Fail> {
     let alloc = rt.alloc();
-    let hub = pair(alloc, b"http://hub.example/", b"hub")?;
-    let one = write_links(alloc, &[hub])?;
+    let links = [
+        pair(alloc, b"http://hub.example/", b"hub")?,
+        pair(alloc, b"http://pub.example/x", b"self")?,
+    ];
+    let one = write_links(alloc, &links[..1])?;
     assert_eq!(rt;
         one.as_slice(),
         b"<http://hub.example/>; rel=\"hub\"".as_slice()
     );
+    let both = write_links(alloc, &links)?;
+    assert_eq!(rt;
+        both.as_slice(),
+        b"<http://hub.example/>; rel=\"hub\", <http://pub.example/x>; rel=\"self\"".as_slice()
+    );
+    assert!(rt; write_links(alloc, &[])?.as_slice().is_empty());
     Ok(())
 }

@@ -44,11 +44,13 @@ fn text_of(alloc: Global, links: &[Pair]) -> Result<Bytes, NoMemory>
 
 /// The text of a Link field that says these links (RFC 8288, section 3): of each pair the name is
 /// the target, and the value is its one relation, in quotes.
+///
+/// The text is in the grammar where no target has a `>` or a control byte, and each relation is
+/// letters.
 pub fn write_links(alloc: Global, items: &[Pair]) -> Result<Bytes, NoMemory>
-    requires { AreWritable items.now }
     ensures text { IfOk result (λ b. b ≡ links_text items.now) }
-    // It reads back as its items.
-    ensures reads_back { IfOk result (λ b. LinkField b (map item_of_pair items.now)) }
+    // Where the targets and the relations can be written so, the text reads back as its items.
+    ensures reads_back { AreWritable items.now → IfOk result (λ b. LinkField b (map item_of_pair items.now)) }
 {
     text_of(alloc, items)
 }

@@ -4,13 +4,9 @@ use Rattle.std.proofs.lemmas.Bool.{eq-eqb, eqb-true, cases_Bool}
 use Rattle.std.proofs.lemmas.List.{take_all, drop_all, drop_at, append-nil, get_or_at}
 use Rattle.ws_disk.specs.Crash.{overwritten, SameBefore, Torn, Follows, NoMore, Only, Elapses, LeavesOnly}
 use Rattle.ws_disk.specs.Record.{Torn-overwritten}
+use Rattle.ws_disk.proofs.Parts.{same_place}
 use Rattle.ws_disk.proofs.Goes.{started, goes_on}
 use Rattle.ws_disk.specs.Gated.{IsClosed, recovered, IsBeforeOrAfter}
-
--- a place before the range of a write is as it was
-pub same_place : (place k : ℕ) (old new : List ℕ) → k < place → k < length old → SameBefore place old new → slice_index new k ≡ slice_index old k
-same_place place k old new low within same =
-    sym (get_or-take (min place (length old)) new k 0 (omega arith)) ∙ ap (λ (l : List ℕ). slice_index l k) same ∙ get_or-take place old k 0 low
 
 shut : (gate : ℕ) (file : List ℕ) → slice_index file gate ≢ 1 → recovered gate file ≡ []
 shut gate file is_shut =

@@ -1,4 +1,5 @@
 mod GateFile
 pub mod Goes
 mod Moments
+pub mod Parts
 mod Pushed

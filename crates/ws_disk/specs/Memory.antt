@@ -1,8 +1,10 @@
--- What the disks in memory are (own).
+-- What the disks tell (own).
 use Rattle.std.specs.Prelude.{◌≡◌, ℕ, ◌+◌, min, Bool, ◌||◌, ◌==◌, nat_le, nat_lt, List, length}
 use Rattle.std.specs.List.{list_any}
 use Rattle.ws_disk.specs.declared.log.CallLog.{CallLog}
 use Rattle.ws_disk.specs.declared.memory.MemDisk.{MemDisk}
+use Rattle.ws_disk.specs.declared.torn.TornDisk.{TornDisk}
+use Rattle.ws_disk.specs.declared.file.FileDisk.{FileDisk}
 use Rattle.ws_disk.specs.Record.{Step, steps_of, LeavesSince, Calm}
 
 -- the calls of a record, the newest first
@@ -51,3 +53,10 @@ pub record IsPlanned (room calls : ℕ) (failing : List ℕ) (disk : MemDisk) : 
 pub record IsNumbered (old new : MemDisk) : Type 0 where
   pub plan : IsPlanned old.log.room old.log.most old.failing.items new
   pub number : length new.log.calls.items ≡ min (length old.log.calls.items + 1) old.log.most
+
+-- how often these failed, which is all that they tell
+abbrev pub torn_faults : TornDisk → ℕ
+torn_faults disk = disk.faults
+
+abbrev pub file_faults : FileDisk → ℕ
+file_faults disk = disk.faults

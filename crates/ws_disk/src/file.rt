@@ -1,6 +1,7 @@
 // The adapter over one file of the system. It tells contracts its count of faults alone.
 ghost use Rattle.std.specs.Prelude.{◌≡◌, ◌≤◌, length, IfOk};
 ghost use Rattle.ws_disk.specs.Cause.{HasCause};
+ghost use Rattle.ws_disk.specs.Memory.{file_faults};
 
 use crate::{Disk, DiskFailed};
 use std::fs::{File, OpenOptions};
@@ -64,7 +65,7 @@ pub struct FileDisk {
 impl FileDisk {
     /// The file at this path. It touches no file yet, and takes no memory.
     pub fn made(rt: HostRuntime, path: &'static str) -> FileDisk
-        ensures { result.faults ≡ 0 }
+        ensures { file_faults result ≡ 0 }
     {
         FileDisk {
             opening: Opening {
@@ -78,7 +79,7 @@ impl FileDisk {
 
     /// How many calls failed.
     pub fn faults(&self) -> u64
-        ensures { result ≡ self.now.faults }
+        ensures { result ≡ file_faults self.now }
     {
         self.faults
     }
@@ -137,7 +138,7 @@ impl Disk for FileDisk {
 
     ghost seen = { λ _. [] };
 
-    ghost faults = { λ disk. disk.faults };
+    ghost faults = { file_faults };
 
     ghost moment = { λ _. 0 };
 

@@ -7,6 +7,8 @@ mod file;
 mod gated;
 mod log;
 mod memory;
+#[cfg(test)]
+mod tests;
 mod torn;
 
 pub use disk::{Disk, DiskFailed};

@@ -26,7 +26,8 @@ pub struct MemDisk {
 
 impl MemDisk {
     ghost use Rattle.ws_disk.specs.Cause.{HasCause, Rose};
-    ghost use Rattle.ws_disk.specs.Memory.{disk_content, disk_steps, disk_moment, disk_faults, is_refused, is_too_long, IsCalm, IsPlanned, IsNumbered};
+    ghost use Rattle.ws_disk.specs.Crash.{Only};
+    ghost use Rattle.ws_disk.specs.Memory.{disk_content, disk_steps, disk_moment, disk_images, disk_faults, is_refused, is_too_long, IsCalm, IsPlanned, IsNumbered};
 
     /// An empty disk with room for so many bytes. Its record has room for so many calls, and for as
     /// many written bytes as the disk. The calls whose numbers stand in `failing`, from 0, fail; so
@@ -35,6 +36,7 @@ impl MemDisk {
     pub fn made(alloc: Global, room: u64, calls: u64, failing: &[u64]) -> Result<MemDisk, NoMemory>
         ensures content { IfOk result (λ disk. disk_content disk ≡ []) }
         ensures calls { IfOk result (λ disk. disk_steps disk ≡ []) }
+        ensures confirmed { IfOk result (λ disk. Only (disk_content disk) (disk_images disk (disk_moment disk))) }
         ensures faults { IfOk result (λ disk. disk_faults disk ≡ 0) }
         ensures plan { IfOk result (IsPlanned room calls failing.now) }
     {
@@ -52,6 +54,7 @@ impl MemDisk {
         requires { length bytes.now ≤ room }
         ensures content { IfOk result (λ disk. disk_content disk ≡ bytes.now) }
         ensures calls { IfOk result (λ disk. disk_steps disk ≡ []) }
+        ensures confirmed { IfOk result (λ disk. Only (disk_content disk) (disk_images disk (disk_moment disk))) }
         ensures faults { IfOk result (λ disk. disk_faults disk ≡ 0) }
         ensures plan { IfOk result (IsPlanned room calls failing.now) }
     {

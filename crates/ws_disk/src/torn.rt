@@ -56,12 +56,13 @@ pub struct TornDisk {
 
 impl TornDisk {
     ghost use Rattle.ws_disk.specs.Cause.{Rose};
+    ghost use Rattle.ws_disk.specs.Memory.{torn_faults};
 
     /// An empty disk with room for so many bytes and so many calls. The calls whose numbers stand in
     /// `failing`, from 0, fail; so do a write past the room, and a call past the number of calls.
     /// Each is counted as a fault and changes nothing.
     pub fn made(alloc: Global, room: u64, calls: u64, failing: &[u64]) -> Result<TornDisk, NoMemory>
-        ensures faults { IfOk result (λ disk. disk.faults ≡ 0) }
+        ensures faults { IfOk result (λ disk. torn_faults disk ≡ 0) }
     {
         let room = room as usize;
         Ok(TornDisk {
@@ -95,14 +96,14 @@ impl TornDisk {
 
     /// How many calls failed.
     pub fn faults(&self) -> u64
-        ensures { result ≡ self.now.faults }
+        ensures { result ≡ torn_faults self.now }
     {
         self.faults
     }
 
     fn fail(&mut self) -> DiskFailed
-        ensures rose { Rose self.old.faults self.new.faults }
-        ensures later { self.old.faults ≤ self.new.faults }
+        ensures rose { Rose (torn_faults self.old) (torn_faults self.new) }
+        ensures later { torn_faults self.old ≤ torn_faults self.new }
     {
         self.faults = self.faults.saturating_add(1);
         DiskFailed
@@ -120,10 +121,11 @@ fn fill_written(image: &mut [u8], written: &[bool], byte: u8) {
 
 impl Disk for TornDisk {
     ghost use Rattle.std.specs.Prelude.{[]};
+    ghost use Rattle.ws_disk.specs.Memory.{torn_faults};
 
     ghost seen = { λ _. [] };
 
-    ghost faults = { λ disk. disk.faults };
+    ghost faults = { torn_faults };
 
     ghost moment = { λ _. 0 };
 

@@ -13,3 +13,4 @@ pub mod Views
 pub mod Follow
 pub mod Apart
 pub mod Paired
+pub mod DueWork

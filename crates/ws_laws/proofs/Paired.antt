@@ -6,24 +6,27 @@ use Rattle.std.specs.Option.{option_map}
 use Rattle.std.proofs.lemmas.Bool.Decides.{nat_tests}
 use Rattle.std.proofs.lemmas.Bool.{and_parts, false≢true, false_from_ne_true, not-true, eqb-true, ltb-true}
 use Rattle.ws_model.specs.declared.event.What.TheVariants.{Confirmed, Fetched}
-use Rattle.ws_laws.proofs.Advance.{is_owed_parts}
-use Rattle.ws_laws.proofs.Apart.{same_pair_via}
-use Rattle.ws_laws.proofs.Ended.{IsToldPair, both_true, is_numbered, skipped}
-use Rattle.ws_laws.proofs.Known.{IsOfConfirmed, allowed, itself, leases_confirmed}
-use Rattle.ws_laws.proofs.ListLaws.{all_append, all_filter, all_find, all_map, all_weaker}
-use Rattle.ws_laws.proofs.Step.{IsFresh, new_fresh}
-use Rattle.ws_laws.specs.Fates.{AreApart}
-use Rattle.ws_model.specs.Fate.{Pair, fate, is_done, is_owed, is_push_of, misses}
-use Rattle.ws_model.specs.History.{has}
-use Rattle.ws_model.specs.Intents.{same_pair}
-use Rattle.ws_model.specs.Leases.{confirmed_intent, is_confirmed, is_on, lease_end, lease_of, leases, live}
-use Rattle.ws_model.specs.Legal.{Legal, accepts}
-use Rattle.ws_model.specs.Pairs.{pair, pairs}
 use Rattle.ws_model.specs.declared.event.Event.{Event}
 use Rattle.ws_model.specs.declared.event.Intent.{Intent}
 use Rattle.ws_model.specs.declared.event.Version.{Version}
 use Rattle.ws_model.specs.declared.event.What.{What}
 use Rattle.ws_model.specs.declared.lease.Lease.{Lease}
+use Rattle.ws_laws.proofs.Advance.{is_owed_parts}
+use Rattle.ws_laws.proofs.Apart.{one_live, same_pair_via}
+use Rattle.ws_laws.proofs.Ended.{IsToldPair, both_true, is_numbered, pairs_told, skipped}
+use Rattle.ws_laws.proofs.Known.{IsKnown, IsOfConfirmed, allowed, fetched_le, in_time, itself, leases_confirmed, pairs_known}
+use Rattle.ws_laws.proofs.ListLaws.{all_append, all_filter, all_filter_with, all_find, all_from, all_map, all_weaker}
+use Rattle.ws_laws.proofs.Step.{IsFresh, new_fresh}
+use Rattle.ws_laws.specs.Fates.{AreApart, OneFate}
+use Rattle.ws_model.specs.Fate.{Pair, fate, is_done, is_owed, is_push_of, misses}
+use Rattle.ws_model.specs.History.{has}
+use Rattle.ws_model.specs.Intents.{same_pair}
+use Rattle.ws_model.specs.Leases.{confirmed_intent, is_confirmed, is_on, lease_by, lease_end, lease_of, leases, live}
+use Rattle.ws_model.specs.Legal.{Legal, accepts, is_allowed}
+use Rattle.ws_model.specs.Moment.{last_time, last_version, serial}
+use Rattle.ws_model.specs.Pairs.{births, carried, owed, pair, pairs}
+use Rattle.ws_model.specs.Verdict.{fate_of, pair_of}
+use Rattle.ws_model.specs.Versions.{is_fetched}
 
 -- ---- what no two of a list have in common
 
@@ -163,5 +166,82 @@ module _ (t : ℕ) (l : Lease) (o : Option Lease) where
 
 -- ---- all pairs
 
-IsNew : List Event → Pair → Type 0
+abbrev IsNew : List Event → Pair → Type 0
 IsNew h p = AllByRecursion (λ q. same_numbers p q ≡ false) (pairs h)
+
+-- a pair of a version that wasn't fetched
+unfetched_new : (h : List Event) (p : Pair) → has (is_fetched p.version.ver) h ≡ false → IsNew h p
+unfetched_new h p k =
+    all_weaker (IsKnown h) (λ q. same_numbers p q ≡ false)
+    (λ q known. and_false_left (p.version.ver == q.version.ver) (p.lease.intent.n == q.lease.intent.n)
+    (false_from_ne_true _ (λ y. false≢true (sym k ∙ ap (λ x. has (is_fetched x) h) (eqb-true p.version.ver q.version.ver y) ∙ known.fetched))))
+    (pairs h) (pairs_known h)
+
+-- a pair of a lease that wasn't confirmed
+unconfirmed_new : (h : List Event) (p : Pair) → has (is_confirmed p.lease.intent.n) h ≡ false → IsNew h p
+unconfirmed_new h p k =
+    all_weaker (IsKnown h) (λ q. same_numbers p q ≡ false)
+    (λ q known. and_false_right (p.version.ver == q.version.ver) (p.lease.intent.n == q.lease.intent.n)
+    (false_from_ne_true _ (λ y. false≢true (sym k ∙ ap (λ x. has (is_confirmed x) h) (eqb-true p.lease.intent.n q.lease.intent.n y) ∙ known.confirmed))))
+    (pairs h) (pairs_known h)
+
+fetched_apart : (v : Version) (t : ℕ) (h : List Event) → Legal h → AreUnlike same_numbers (births t (Fetched v) None (live h t) (owed h t))
+fetched_apart v t h l =
+    versions_apart t v (filter (λ m. bytes_eq m.intent.topic v.topic) (live h t))
+    (unlike_filter same_number (λ m. bytes_eq m.intent.topic v.topic) (live h t) (unlike_filter same_number (λ m. is_none (lease_end h m t)) (leases h) (leases_numbered h l)))
+
+fetched_new : (v : Version) (t : ℕ) (h : List Event) → is_allowed (Fetched v) t h ≡ true → AllByRecursion (IsNew h) (births t (Fetched v) None (live h t) (owed h t))
+fetched_new v t h k =
+    let new : has (is_fetched v.ver) h ≡ false = false_from_ne_true _ (λ y. let a : v.ver ≤ last_version h = fetched_le h v.ver y in let b : last_version h < v.ver = ltb-true _ _ k in absurd (omega arith)) in
+    let ls : List Lease = filter (λ m. bytes_eq m.intent.topic v.topic) (live h t) in
+    all_map (IsNew h) (pair t v) ls (all_from (λ m. IsNew h (pair t v m)) (λ m. unfetched_new h (pair t v m) new) ls)
+
+-- the pairs that go over to a lease come from the one live lease of its topic and callback
+from_one : (h : List Event) (t : ℕ) (i : Intent) → Legal h → last_time h ≤ t
+    → AllByRecursion (λ (p : Pair). find (λ (m : Lease). same_pair i m.intent) (live h t) ≡ Some p.lease) (filter (λ p. same_pair i p.lease.intent) (owed h t))
+from_one h t i l le =
+    all_weaker (λ (p : Pair). (IsToldPair h p × (is_owed (fate h p t) ≡ true)) × (same_pair i p.lease.intent ≡ true)) (λ (p : Pair). find (λ (m : Lease). same_pair i m.intent) (live h t) ≡ Some p.lease)
+    (λ p k. found_by_pair i p.lease.intent.n p.lease (live h t) (one_live h t l le) (owed_lives h t p k.0.0 k.0.1) k.1)
+    (filter (λ p. same_pair i p.lease.intent) (owed h t))
+    (all_filter_with (λ (p : Pair). IsToldPair h p × (is_owed (fate h p t) ≡ true)) (λ p. same_pair i p.lease.intent) (owed h t)
+    (all_filter_with (IsToldPair h) (λ p. is_owed (fate h p t)) (pairs h) (pairs_told h l)))
+
+carried_apart : (h : List Event) (t : ℕ) → Legal h → last_time h ≤ t → AreUnlike same_numbers (pairs h) → (ls : List Lease) → AreUnlike same_numbers (carried t (owed h t) ls)
+carried_apart h t l le a [] = tt
+carried_apart h t l le a (x ∷ xs) =
+    leases_apart t x (find (λ (m : Lease). same_pair x.intent m.intent) (live h t)) (filter (λ p. same_pair x.intent p.lease.intent) (owed h t))
+    (unlike_filter same_numbers (λ p. same_pair x.intent p.lease.intent) (owed h t) (unlike_filter same_numbers (λ p. is_owed (fate h p t)) (pairs h) a))
+    (from_one h t x.intent l le)
+
+carried_new : (e : Event) (h : List Event) (t : ℕ) (ls : List Lease) → AllByRecursion (IsFresh e h) ls → AllByRecursion (IsNew h) (carried t (owed h t) ls)
+carried_new e h t [] f = tt
+carried_new e h t (x ∷ xs) f =
+    let ps : List Pair = filter (λ p. same_pair x.intent p.lease.intent) (owed h t) in
+    all_map (IsNew h) (λ p. pair t p.version x) ps (all_from (λ p. IsNew h (pair t p.version x)) (λ p. unconfirmed_new h (pair t p.version x) f.0.unconfirmed) ps)
+
+born_apart : (w : What) (t : ℕ) (h : List Event) → Legal h → last_time h ≤ t → AreUnlike same_numbers (pairs h) → AreUnlike same_numbers (births t w (confirmed_intent w h) (live h t) (owed h t))
+born_apart (Fetched v) t h l le a = fetched_apart v t h l
+born_apart (Confirmed n sent) t h l le a = carried_apart h t l le a (lease_by sent (confirmed_intent (Confirmed n sent) h))
+born_apart _ t h l le a = tt
+
+born_new : (w : What) (s t : ℕ) (h : List Event) → is_allowed w t h ≡ true → AllByRecursion (IsNew h) (births t w (confirmed_intent w h) (live h t) (owed h t))
+born_new (Fetched v) s t h k = fetched_new v t h k
+born_new (Confirmed n sent) s t h k =
+    carried_new (record { serial = s; t = t; what = Confirmed n sent }) h t (lease_by sent (confirmed_intent (Confirmed n sent) h)) (new_fresh (Confirmed n sent) s t h k)
+born_new _ s t h k = tt
+
+pub pairs_apart : (h : List Event) → Legal h → AreUnlike same_numbers (pairs h)
+pairs_apart [] l = tt
+pairs_apart (e ∷ h) l =
+    let before : last_time h ≤ e.t = in_time h e l.1 in
+    let old = pairs_apart h l.0 in
+    unlike_append same_numbers (births e.t e.what (confirmed_intent e.what h) (live h e.t) (owed h e.t)) (pairs h)
+    (born_apart e.what e.t h l.0 before old) (born_new e.what e.serial e.t h (allowed h e l.1)) old
+
+pub pairs_only : (h : List Event) → Legal h → AllByRecursion (λ p. pair_of h p.version.ver p.lease.intent.n ≡ Some p) (pairs h)
+pairs_only h l = unlike_only (pairs h) (pairs_apart h l)
+
+pub one_fate : OneFate
+one_fate h t l =
+    all_weaker (λ p. pair_of h p.version.ver p.lease.intent.n ≡ Some p) (λ p. fate_of h p.version.ver p.lease.intent.n t ≡ Some (fate h p t))
+    (λ p k. ap (option_map (λ q. fate h q t)) k) (pairs h) (pairs_only h l)

@@ -1,9 +1,9 @@
 -- What is due is licensed.
-use Rattle.std.proofs.Common.{◌≡◌, ℕ, Bool, true, false, cond, not, ◌&&◌, ◌||◌, List, [], ◌∷◌, ◌++◌, refl, ap, sym, ◌∙◌, subst, arith, inl, inr}
-use Rattle.std.specs.Prelude.{Option, Some, None, map, filter, find, nat_le, is_some, ◌==◌}
-use Rattle.std.specs.List.{AllByRecursion, list_any}
+use Rattle.std.proofs.Common.{◌≡◌, ℕ, Bool, true, false, cond, not, ◌&&◌, ◌||◌, List, [], ◌∷◌, ◌++◌, refl, ap, sym, ◌∙◌, arith, inl, inr}
+use Rattle.std.specs.Prelude.{Some, filter, find, nat_le, is_some, ◌==◌}
+use Rattle.std.specs.List.{list_any}
 use Rattle.std.proofs.lemmas.Bool.Decides.{nat_tests}
-use Rattle.std.proofs.lemmas.Bool.{or_left, or_right, or_cases, or_from, and_parts, false≢true, false_from_ne_true, eqb-true}
+use Rattle.std.proofs.lemmas.Bool.{or_cases, or_from, and_parts, false≢true, false_from_ne_true, eqb-true}
 use Rattle.ws_model.specs.declared.work.Work.{Work}
 use Rattle.ws_model.specs.declared.work.Work.TheVariants.{Verify, Notice, Fetch, Push}
 use Rattle.ws_laws.proofs.Ended.{IsToldPair, both_true, is_numbered, pairs_told}
@@ -68,13 +68,13 @@ due_owed : (h : List Event) (t : ℕ) (out : List Work) (v n : ℕ) → list_any
 due_owed h t out v n k =
     let all = any_of_filter (same_work (Push v n)) (λ w. not (is_out out w)) (due_verifications h ++ due_notices h ++ due_fetches h ++ due_pushes h t) k in
     let pushes =
-        any_append (same_work (Push v n)) (due_verifications h ++ due_notices h ++ due_fetches h) (due_pushes h t)
-        (none_before (due_verifications h ++ due_notices h) (due_fetches h)
-        (none_before (due_verifications h) (due_notices h)
-        (any_map (same_work (Push v n)) (λ i. Verify i.n) (in_order by_number (filter (is_first h) (pending h))) ∙ none_like (λ i. false) (λ i. refl) (in_order by_number (filter (is_first h) (pending h))))
-        (any_map (same_work (Push v n)) (λ i. Notice i.n) (in_order by_number (notices h)) ∙ none_like (λ i. false) (λ i. refl) (in_order by_number (notices h))))
-        (any_map (same_work (Push v n)) (λ p. Fetch p.topic (serial h)) (in_order by_topic (fetches h)) ∙ none_like (λ p. false) (λ p. refl) (in_order by_topic (fetches h))))
-        all in
+    any_append (same_work (Push v n)) (due_verifications h ++ due_notices h ++ due_fetches h) (due_pushes h t)
+    (none_before (due_verifications h ++ due_notices h) (due_fetches h)
+    (none_before (due_verifications h) (due_notices h)
+    (any_map (same_work (Push v n)) (λ i. Verify i.n) (in_order by_number (filter (is_first h) (pending h))) ∙ none_like (λ i. false) (λ i. refl) (in_order by_number (filter (is_first h) (pending h))))
+    (any_map (same_work (Push v n)) (λ i. Notice i.n) (in_order by_number (notices h)) ∙ none_like (λ i. false) (λ i. refl) (in_order by_number (notices h))))
+    (any_map (same_work (Push v n)) (λ p. Fetch p.topic (serial h)) (in_order by_topic (fetches h)) ∙ none_like (λ p. false) (λ p. refl) (in_order by_topic (fetches h))))
+    all in
     any_of_filter (is_of_numbers v n) (λ p. nat_le (next h p) t && not (is_behind (owed h t) p)) (owed h t)
     (sym (any_in_order (is_of_numbers v n) (by_next h) (due_pairs h t))
     ∙ sym (any_map (same_work (Push v n)) (λ p. Push p.version.ver p.lease.intent.n) (in_order (by_next h) (due_pairs h t)))

@@ -1,11 +1,10 @@
 -- Whether an event may follow goes by the view.
-use Rattle.std.proofs.Common.{◌≡◌, ℕ, ◌^◌, ◌≤◌, ◌<◌, Bool, true, false, cond, not, ◌&&◌, ◌||◌, List, [], ◌∷◌, refl, ap, sym, ◌∙◌, subst, arith, inl, inr}
+use Rattle.std.proofs.Common.{◌≡◌, ℕ, ◌≤◌, ◌<◌, Bool, true, false, cond, not, ◌&&◌, ◌||◌, List, [], ◌∷◌, refl, ap, sym, ◌∙◌, arith, inl, inr}
 use Rattle.std.specs.Prelude.{nat_lt, nat_le, is_some, Option, Some, None, map, filter, find, ◌==◌, bytes_eq}
-use Rattle.std.specs.List.{AllByRecursion, list_any}
+use Rattle.std.specs.List.{list_any}
 use Rattle.std.proofs.lemmas.Bool.Decides.{nat_tests}
-use Rattle.std.proofs.lemmas.Bool.{or_left, or_right, or_cases, or_from, and_parts, eqb-true, ltb-true, false≢true, false_from_ne_true, not-true}
+use Rattle.std.proofs.lemmas.Bool.{or_left, or_right, or_cases}
 use Rattle.ws_model.specs.declared.event.What.TheVariants.{Asked, Confirmed, Declined, Unheard, Barred, Noticed, Pinged, Fetched, Same, Unfetched, Pushed, Tally, Revoked}
-use Rattle.ws_laws.proofs.Ended.{skipped}
 use Rattle.ws_laws.proofs.Known.{itself}
 use Rattle.ws_laws.proofs.ListLaws.{all_find, all_from}
 use Rattle.ws_laws.proofs.Moments.{last_intent_le, last_serial_le, last_time_le, last_version_le}

@@ -1,10 +1,9 @@
 -- The numbers of a pair tell it from all others.
-use Rattle.std.proofs.Common.{◌≡◌, ℕ, ◌≤◌, ◌<◌, Bool, true, false, cond, not, ◌&&◌, List, [], ◌∷◌, ◌++◌, refl, ap, sym, ◌∙◌, subst, arith, inl, inr}
-use Rattle.std.specs.Prelude.{Option, Some, None, map, filter, find, nat_lt, nat_le, bytes_eq, is_none, ◌==◌}
+use Rattle.std.proofs.Common.{◌≡◌, ℕ, ◌≤◌, ◌<◌, Bool, true, false, cond, not, ◌&&◌, List, [], ◌∷◌, ◌++◌, refl, ap, sym, ◌∙◌, arith}
+use Rattle.std.specs.Prelude.{Option, Some, None, map, filter, find, nat_le, bytes_eq, is_none, ◌==◌}
 use Rattle.std.specs.List.{AllByRecursion}
 use Rattle.std.specs.Option.{option_map}
-use Rattle.std.proofs.lemmas.Bool.Decides.{nat_tests}
-use Rattle.std.proofs.lemmas.Bool.{and_parts, false≢true, false_from_ne_true, not-true, eqb-true, ltb-true}
+use Rattle.std.proofs.lemmas.Bool.{and_parts, false≢true, false_from_ne_true, eqb-true, ltb-true}
 use Rattle.ws_model.specs.declared.event.What.TheVariants.{Confirmed, Fetched}
 use Rattle.ws_model.specs.declared.event.Event.{Event}
 use Rattle.ws_model.specs.declared.event.Intent.{Intent}
@@ -13,7 +12,7 @@ use Rattle.ws_model.specs.declared.event.What.{What}
 use Rattle.ws_model.specs.declared.lease.Lease.{Lease}
 use Rattle.ws_laws.proofs.Advance.{is_owed_parts}
 use Rattle.ws_laws.proofs.Apart.{one_live, same_pair_via}
-use Rattle.ws_laws.proofs.Ended.{IsToldPair, both_true, is_numbered, pairs_told, skipped}
+use Rattle.ws_laws.proofs.Ended.{IsToldPair, both_true, is_numbered, pairs_told}
 use Rattle.ws_laws.proofs.Known.{IsKnown, IsOfConfirmed, allowed, fetched_le, in_time, itself, leases_confirmed, pairs_known}
 use Rattle.ws_laws.proofs.ListLaws.{all_append, all_filter, all_filter_with, all_find, all_from, all_map, all_weaker}
 use Rattle.ws_laws.proofs.Step.{IsFresh, new_fresh}
@@ -23,7 +22,7 @@ use Rattle.ws_model.specs.History.{has}
 use Rattle.ws_model.specs.Intents.{same_pair}
 use Rattle.ws_model.specs.Leases.{confirmed_intent, is_confirmed, is_on, lease_by, lease_end, lease_of, leases, live}
 use Rattle.ws_model.specs.Legal.{Legal, accepts, is_allowed}
-use Rattle.ws_model.specs.Moment.{last_time, last_version, serial}
+use Rattle.ws_model.specs.Moment.{last_time, last_version}
 use Rattle.ws_model.specs.Pairs.{births, carried, owed, pair, pairs}
 use Rattle.ws_model.specs.Verdict.{fate_of, pair_of}
 use Rattle.ws_model.specs.Versions.{is_fetched}
@@ -123,10 +122,11 @@ IsOnly ps p = find (λ (q : Pair). (q.version.ver == p.version.ver) && (q.lease.
 
 unlike_only : (ps : List Pair) → AreUnlike same_numbers ps → AllByRecursion (IsOnly ps) ps
 unlike_only [] a = tt
-unlike_only (p ∷ ps) a =
-    (rw (itself p.version.ver, itself p.lease.intent.n),
-    all_weaker (λ q. (same_numbers p q ≡ false) × IsOnly ps q) (IsOnly (p ∷ ps)) (λ q k. rw k.0 k.1) ps
-    (both_true (λ q. same_numbers p q ≡ false) (IsOnly ps) ps a.0 (unlike_only ps a.1)))
+unlike_only (p ∷ ps) a = (
+  rw (itself p.version.ver, itself p.lease.intent.n),
+  all_weaker (λ q. (same_numbers p q ≡ false) × IsOnly ps q) (IsOnly (p ∷ ps)) (λ q k. rw k.0 k.1) ps
+      (both_true (λ q. same_numbers p q ≡ false) (IsOnly ps) ps a.0 (unlike_only ps a.1)),
+)
 
 and_false_left : (a b : Bool) → a ≡ false → (a && b) ≡ false
 and_false_left a b k = rw k
@@ -138,21 +138,23 @@ and_false_right false b k = refl
 -- of a new version
 versions_apart : (t : ℕ) (v : Version) (ls : List Lease) → AreUnlike same_number ls → AreUnlike same_numbers (map (pair t v) ls)
 versions_apart t v [] a = tt
-versions_apart t v (l ∷ ls) a =
-    (all_map (λ q. same_numbers (pair t v l) q ≡ false) (pair t v) ls
-    (all_weaker (λ (m : Lease). same_number l m ≡ false) (λ m. same_numbers (pair t v l) (pair t v m) ≡ false) (λ m k. and_false_right (v.ver == v.ver) _ k) ls a.0),
-    versions_apart t v ls a.1)
+versions_apart t v (l ∷ ls) a = (
+  all_map (λ q. same_numbers (pair t v l) q ≡ false) (pair t v) ls
+      (all_weaker (λ (m : Lease). same_number l m ≡ false) (λ m. same_numbers (pair t v l) (pair t v m) ≡ false) (λ m k. and_false_right (v.ver == v.ver) _ k) ls a.0),
+  versions_apart t v ls a.1,
+)
 
 -- of a new lease, where all that goes over comes from one lease
 module _ (t : ℕ) (l : Lease) (o : Option Lease) where
   leases_apart : (ps : List Pair) → AreUnlike same_numbers ps → AllByRecursion (λ (p : Pair). o ≡ Some p.lease) ps → AreUnlike same_numbers (map (λ p. pair t p.version l) ps)
   leases_apart [] a b = tt
-  leases_apart (p ∷ ps) a b =
-      (all_map (λ q. same_numbers (pair t p.version l) q ≡ false) (λ q. pair t q.version l) ps
-      (all_weaker (λ (q : Pair). (same_numbers p q ≡ false) × (o ≡ Some q.lease)) (λ q. same_numbers (pair t p.version l) (pair t q.version l) ≡ false)
-      (λ q k. and_false_left (p.version.ver == q.version.ver) (l.intent.n == l.intent.n) (differs q k.0 k.1)) ps
-      (both_true (λ (q : Pair). same_numbers p q ≡ false) (λ (q : Pair). o ≡ Some q.lease) ps a.0 b.1)),
-      leases_apart ps a.1 b.1)
+  leases_apart (p ∷ ps) a b = (
+    all_map (λ q. same_numbers (pair t p.version l) q ≡ false) (λ q. pair t q.version l) ps
+        (all_weaker (λ (q : Pair). (same_numbers p q ≡ false) × (o ≡ Some q.lease)) (λ q. same_numbers (pair t p.version l) (pair t q.version l) ≡ false)
+        (λ q k. and_false_left (p.version.ver == q.version.ver) (l.intent.n == l.intent.n) (differs q k.0 k.1)) ps
+        (both_true (λ (q : Pair). same_numbers p q ≡ false) (λ (q : Pair). o ≡ Some q.lease) ps a.0 b.1)),
+    leases_apart ps a.1 b.1,
+  )
     where
       parted : (b c : Bool) → (b && c) ≡ false → c ≡ true → b ≡ false
       parted true c k e = sym (sym k ∙ e)

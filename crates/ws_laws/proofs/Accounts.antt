@@ -1,7 +1,6 @@
 -- The account at a later moment, and after one more event.
-use Rattle.std.proofs.Common.{◌≡◌, ℕ, suc, ◌+◌, ◌-◌, ◌^◌, ◌≤◌, ◌<◌, Bool, true, false, cond, not, ◌&&◌, ◌||◌, List, [], ◌∷◌, ◌++◌, length, refl, ap, sym, ◌∙◌, subst, arith, inl, inr}
+use Rattle.std.proofs.Common.{◌≡◌, ℕ, suc, ◌+◌, ◌≤◌, Bool, true, false, cond, not, ◌&&◌, ◌||◌, List, [], ◌∷◌, ◌++◌, length, refl, ap, sym, ◌∙◌, arith}
 use Rattle.std.specs.Prelude.{nat_lt, nat_le, is_none, Option, Some, None, map, filter, min}
-use Rattle.std.specs.List.{AllByRecursion}
 use Rattle.std.proofs.lemmas.Bool.Decides.{nat_tests}
 use Rattle.std.proofs.lemmas.Bool.{and_parts, false≢true, not-true}
 use Rattle.std.proofs.lemmas.List.{length-map}
@@ -74,9 +73,10 @@ module _ (test : Fate → Bool) (un : (m n : ℕ) → test (Owed m n) ≡ false)
       expires false e k = ap test (fate_expired h p t u k e)
 
       by : (b : Bool) → is_owed (fate h p t) ≡ b → (test (fate h p u) ≡ (test (fate h p t) || (b && expires_so u p.lease))) × (test (fate h p t) ≡ true → (b && expires_so u p.lease) ≡ false)
-      by true k =
-          (expires (nat_lt u (expiry p.lease)) refl k ∙ ap (λ b. b || expires_so u p.lease) (sym (untested test un (fate h p t) k)),
-          λ y. absurd (false≢true (sym (untested test un (fate h p t) k) ∙ y)))
+      by true k = (
+        expires (nat_lt u (expiry p.lease)) refl k ∙ ap (λ b. b || expires_so u p.lease) (sym (untested test un (fate h p t) k)),
+        λ y. absurd (false≢true (sym (untested test un (fate h p t) k) ∙ y)),
+      )
       by false k = (ap test (fate_kept h p t u le k) ∙ sym (or_false (test (fate h p t)) false refl), λ y. refl)
 
   fated_later : (h : List Event) (t u : ℕ) → t ≤ u → fated test h u ≡ fated test h t + length (filter (λ w. expires_so u w.lease) (map (owed_push h) (owed h t)))

@@ -1,11 +1,10 @@
 -- Of one topic and callback at most one lease is live.
-use Rattle.std.proofs.Common.{◌≡◌, ℕ, ◌≤◌, Bool, true, false, cond, not, ◌&&◌, List, [], ◌∷◌, ◌++◌, refl, ap, sym, ◌∙◌, subst, arith}
+use Rattle.std.proofs.Common.{◌≡◌, ℕ, ◌≤◌, Bool, true, false, cond, List, [], ◌∷◌, ◌++◌, refl, ap, sym, ◌∙◌, subst, arith}
 use Rattle.std.specs.Prelude.{Option, Some, None, filter, nat_lt, bytes_eq, is_none}
 use Rattle.std.specs.List.{AllByRecursion}
-use Rattle.std.proofs.lemmas.Bool.{and_parts, false≢true, false_from_ne_true, not-true}
+use Rattle.std.proofs.lemmas.Bool.{and_parts, false≢true}
 use Rattle.ws_model.specs.declared.event.What.TheVariants.{Confirmed}
 use Rattle.ws_laws.proofs.Advance.{live_later}
-use Rattle.ws_laws.proofs.Ended.{others}
 use Rattle.ws_laws.proofs.Known.{in_time}
 use Rattle.ws_laws.proofs.ListLaws.{all_filter, all_filter_with, all_from, all_weaker}
 use Rattle.ws_laws.proofs.Step.{live_step}

@@ -1,9 +1,9 @@
 -- Which intents are denied, and how often.
-use Rattle.std.proofs.Common.{◌≡◌, ℕ, ◌≤◌, ◌<◌, Bool, true, false, cond, not, ◌&&◌, ◌||◌, List, [], ◌∷◌, ◌++◌, refl, ap, sym, ◌∙◌, subst, arith, inl, inr, ◌⊎◌}
-use Rattle.std.specs.Prelude.{nat_lt, nat_le, is_none, is_some, Option, Some, None, filter, find, ◌==◌}
+use Rattle.std.proofs.Common.{◌≡◌, ℕ, ◌≤◌, ◌<◌, Bool, true, false, cond, not, ◌&&◌, List, [], ◌∷◌, refl, ap, sym, ◌∙◌, subst, arith, inl, inr, ◌⊎◌}
+use Rattle.std.specs.Prelude.{nat_lt, is_none, is_some, Option, Some, None, find, ◌==◌}
 use Rattle.std.specs.List.{AllByRecursion, list_any}
 use Rattle.std.proofs.lemmas.Bool.Decides.{nat_tests}
-use Rattle.std.proofs.lemmas.Bool.{or_left, or_right, or_cases, or_parts, or_from, and_parts, eqb-true, ltb-true, false≢true, false_from_ne_true, not-true}
+use Rattle.std.proofs.lemmas.Bool.{or_left, or_right, or_cases, or_from, and_parts, eqb-true, false≢true, false_from_ne_true, not-true}
 use Rattle.ws_model.specs.declared.event.What.TheVariants.{Confirmed, Barred, Noticed, Revoked}
 use Rattle.ws_model.specs.declared.event.Event.{Event}
 use Rattle.ws_model.specs.declared.event.Intent.{Intent}
@@ -13,7 +13,7 @@ use Rattle.ws_laws.proofs.Advance.{live_later}
 use Rattle.ws_laws.proofs.Known.{IsOfConfirmed, about_le, allowed, in_time, is_about, leases_confirmed}
 use Rattle.ws_laws.proofs.ListLaws.{all_append, all_filter, all_filter_with, all_find, all_from, all_weaker, any_then}
 use Rattle.ws_laws.proofs.Step.{IsFresh, find_pending, has_less, live_step, new_fresh}
-use Rattle.ws_laws.specs.Steps.{found, lives_on}
+use Rattle.ws_laws.specs.Steps.{lives_on}
 use Rattle.ws_model.specs.History.{has}
 use Rattle.ws_model.specs.Intents.{asked, is_denied, is_noticed, is_owed_notice, is_pending_number, is_settled, notices}
 use Rattle.ws_model.specs.Leases.{confirmed_intent, expiry, is_confirmed, lease_end, lease_of, leases, live}
@@ -196,8 +196,8 @@ noticed_one (Noticed m heard) t h n b ok k =
     found None e s = absurd (false≢true s)
     found (Some i) e s =
         let q = all_find (λ j. is_owed_notice h j ≡ true) (λ j. j.n == m) i (notices h)
-                (all_weaker (λ (j : Intent). Unit {0} × (is_owed_notice h j ≡ true)) (λ j. is_owed_notice h j ≡ true) (λ j p. p.1) (notices h)
-                (all_filter_with (λ (j : Intent). Unit {0}) (is_owed_notice h) (asked h) (all_from (λ (j : Intent). Unit {0}) (λ j. tt) (asked h)))) e in
+        (all_weaker (λ (j : Intent). Unit {0} × (is_owed_notice h j ≡ true)) (λ j. is_owed_notice h j ≡ true) (λ j p. p.1) (notices h)
+        (all_filter_with (λ (j : Intent). Unit {0}) (is_owed_notice h) (asked h) (all_from (λ (j : Intent). Unit {0}) (λ j. tt) (asked h)))) e in
         let d = and_parts (has (is_denied i.n) h) (not (has (is_noticed i.n true) h)) (and_parts (has (is_denied i.n) h && not (has (is_noticed i.n true) h)) _ q.0).0 in
         subst (λ x. has (is_denied x) h ≡ true) (eqb-true i.n m q.1 ∙ same) d.0
 noticed_one _ t h n b ok k = absurd (false≢true k)

@@ -19,7 +19,6 @@ use Rattle.ws_laws.proofs.Known.{IsKnown, IsOfConfirmed, allowed, in_time, itsel
 use Rattle.ws_laws.proofs.ListLaws.{all_append, all_filter, all_filter_with, all_from, all_map, all_weaker, any_then}
 use Rattle.ws_laws.proofs.Step.{IsFresh, new_fresh}
 use Rattle.ws_laws.specs.Fates.{EndedStays}
-use Rattle.ws_laws.specs.Steps.{found}
 use Rattle.ws_model.specs.Fate.{Pair, fate, fate_by, is_done, is_miss, is_owed, is_push, misses, next}
 use Rattle.ws_model.specs.History.{has, times}
 use Rattle.ws_model.specs.Intents.{same_pair}

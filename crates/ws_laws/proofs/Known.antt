@@ -1,5 +1,5 @@
 -- What a legal past is known to have.
-use Rattle.std.proofs.Common.{◌^◌, ◌≡◌, ℕ, ◌≤◌, Bool, true, false, cond, ◌&&◌, List, [], ◌∷◌, refl, subst, arith, inl, inr}
+use Rattle.std.proofs.Common.{◌≡◌, ℕ, ◌≤◌, Bool, true, false, cond, ◌&&◌, List, [], ◌∷◌, refl, subst, arith, inl, inr}
 use Rattle.std.specs.Prelude.{nat_lt, nat_le, is_none, Option, Some, None, filter, find, max, ◌==◌, bytes_eq}
 use Rattle.std.specs.List.{AllByRecursion}
 use Rattle.std.proofs.lemmas.Bool.Decides.{nat_tests}
@@ -16,9 +16,8 @@ use Rattle.ws_model.specs.History.{has}
 use Rattle.ws_model.specs.Intents.{asked, intents_of, is_pending, pending, same_pair}
 use Rattle.ws_model.specs.Leases.{confirmed_intent, first_end, is_confirmed, is_on, lease_by, lease_end, lease_of, leases, live}
 use Rattle.ws_model.specs.Legal.{Legal, accepts, accepts_what, is_allowed, is_first_tally, is_in_order, is_sound, number_limit, time_limit}
-use Rattle.ws_model.specs.Moment.{asked_number, fetched_number, last_intent, last_serial, last_time, last_version, serial}
+use Rattle.ws_model.specs.Moment.{asked_number, fetched_number, last_intent, last_serial, last_time, last_version}
 use Rattle.ws_model.specs.Pairs.{births, carried, owed, pair, pairs}
-use Rattle.ws_model.specs.Verdict.{fetched}
 use Rattle.ws_model.specs.Versions.{is_fetched}
 
 -- the order of the two sides of a test

@@ -12,3 +12,5 @@ pub mod Accounts
 pub mod Views
 pub mod Follow
 pub mod Apart
+pub mod Paired
+pub mod DueWork

@@ -1,6 +1,5 @@
 -- The greatest time, serial and numbers, with those of a Tally and without.
-use Rattle.std.proofs.Common.{◌≡◌, ℕ, ◌≤◌, ◌<◌, List, [], ◌∷◌, refl, arith}
-use Rattle.std.specs.Prelude.{max}
+use Rattle.std.proofs.Common.{◌≡◌, ℕ, ◌≤◌, List, [], ◌∷◌, refl, arith}
 use Rattle.ws_model.specs.declared.event.What.TheVariants.{Asked, Fetched, Tally}
 use Rattle.ws_laws.specs.Steps.{IsNewlyNumbered}
 use Rattle.ws_model.specs.Account.{tallies_of}

@@ -1,11 +1,11 @@
 -- The owed notices after one more event.
-use Rattle.std.proofs.Common.{◌≡◌, ℕ, suc, ◌≤◌, ◌<◌, Bool, true, false, cond, not, ◌&&◌, ◌||◌, List, [], ◌∷◌, ◌++◌, refl, ap, sym, ◌∙◌, subst, arith, inl, inr}
-use Rattle.std.specs.Prelude.{nat_lt, nat_le, is_none, is_some, Option, Some, None, map, filter, find, ◌==◌}
+use Rattle.std.proofs.Common.{◌≡◌, ℕ, suc, ◌≤◌, ◌<◌, Bool, true, false, cond, not, ◌&&◌, ◌||◌, List, [], ◌∷◌, ◌++◌, refl, ap, sym, ◌∙◌, subst, arith}
+use Rattle.std.specs.Prelude.{nat_lt, nat_le, is_none, Option, Some, None, map, filter, find, ◌==◌}
 use Rattle.std.specs.List.{AllByRecursion, list_any}
 use Rattle.std.proofs.lemmas.Bool.Decides.{nat_tests}
-use Rattle.std.proofs.lemmas.Bool.{or_left, or_right, or_cases, or_parts, or_from, and_parts, eqb-true, ltb-true, false≢true, false_from_ne_true, not-true}
+use Rattle.std.proofs.lemmas.Bool.{eqb-true, ltb-true, false≢true, false_from_ne_true}
 use Rattle.std.proofs.lemmas.List.Elements.{filter-append}
-use Rattle.ws_model.specs.declared.event.What.TheVariants.{Asked, Confirmed, Barred, Noticed, Revoked}
+use Rattle.ws_model.specs.declared.event.What.TheVariants.{Asked, Confirmed, Barred, Revoked}
 use Rattle.ws_model.specs.declared.event.Event.{Event}
 use Rattle.ws_model.specs.declared.event.Intent.{Intent}
 use Rattle.ws_model.specs.declared.event.What.{What}
@@ -19,7 +19,7 @@ use Rattle.ws_model.specs.History.{has, times}
 use Rattle.ws_model.specs.Intents.{asked, intents_of, is_denied, is_noticed, is_owed_notice, is_pending_number, notices}
 use Rattle.ws_model.specs.Leases.{confirmed_intent, is_on, lease_by, lease_end, lease_of, leases, live}
 use Rattle.ws_model.specs.Legal.{Legal, accepts, is_allowed, is_on_one}
-use Rattle.ws_model.specs.Moment.{last_intent, last_time, serial}
+use Rattle.ws_model.specs.Moment.{last_intent, last_time}
 use Rattle.ws_model.specs.View.{owed_notice, reason_in, reason_of, view}
 use Rattle.ws_model.specs.declared.lease.Lease.{Lease}
 

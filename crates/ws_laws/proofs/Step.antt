@@ -20,12 +20,12 @@ use Rattle.ws_laws.proofs.Advance.{is_owed_parts}
 use Rattle.ws_laws.proofs.Known.{IsKnown, IsOfConfirmed, about_le, allowed, fetched_le, first_end_none, in_time, is_about, leases_confirmed, pairs_known, pushes_known}
 use Rattle.ws_laws.proofs.ListLaws.{all_filter, all_filter_with, all_find, all_from, all_map, all_weaker, filter-filter, filter-map, filter_all, filter_filter_on, find-filter, find-map, map-map, map_same}
 use Rattle.ws_laws.specs.Steps.{after_miss, confirmed_in, found, is_missed, lives_on, new_push, new_pushes, new_waiting, owed_afresh, stays_owed, stays_pending, unheard_more}
-use Rattle.ws_model.specs.Fate.{Pair, delay, fate, is_done, is_miss, is_owed, is_push, misses, next, next_by}
+use Rattle.ws_model.specs.Fate.{Pair, delay, fate, is_done, is_miss, is_owed, is_push, misses, next_by}
 use Rattle.ws_model.specs.History.{has, newest_time, times}
 use Rattle.ws_model.specs.Intents.{asked, intents_of, is_pending, is_pending_number, is_settled, is_unheard, pending, same_pair}
 use Rattle.ws_model.specs.Leases.{cause_of, confirmed_intent, expiry, first_end, is_confirmed, is_on, lease_by, lease_end, lease_of, leases, live, or_else, stamped}
 use Rattle.ws_model.specs.Legal.{Legal, accepts, is_allowed, is_confirmable}
-use Rattle.ws_model.specs.Moment.{last_intent, last_time, last_version, serial}
+use Rattle.ws_model.specs.Moment.{last_intent, last_time, last_version}
 use Rattle.ws_model.specs.Pairs.{births, carried, owed, pair, pairs}
 use Rattle.ws_model.specs.Versions.{is_fetched}
 use Rattle.ws_model.specs.View.{OwedPush, owed_push, view, waiting}

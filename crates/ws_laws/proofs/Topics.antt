@@ -1,22 +1,20 @@
 -- The latest versions and the owed fetches after one more event.
-use Rattle.std.proofs.Common.{◌≡◌, ℕ, suc, ◌≤◌, ◌<◌, Bool, true, false, cond, not, ◌&&◌, ◌||◌, List, [], ◌∷◌, ◌++◌, refl, ap, sym, ◌∙◌, subst, arith, inl, inr}
-use Rattle.std.specs.Prelude.{nat_lt, nat_le, is_some, Option, Some, None, map, filter, find, ◌==◌, bytes_eq, max}
-use Rattle.std.specs.List.{AllByRecursion, list_any}
+use Rattle.std.proofs.Common.{◌≡◌, ℕ, suc, ◌≤◌, ◌<◌, Bool, true, false, cond, not, ◌&&◌, ◌||◌, List, [], ◌∷◌, refl, ap, sym, ◌∙◌, arith, inl, inr}
+use Rattle.std.specs.Prelude.{nat_lt, nat_le, Some, map, filter, find, ◌==◌, bytes_eq}
+use Rattle.std.specs.List.{AllByRecursion}
 use Rattle.std.proofs.lemmas.Bool.Decides.{nat_tests}
-use Rattle.std.proofs.lemmas.Bool.{or_left, or_right, or_cases, or_parts, or_from, and_parts, eqb-true, ltb-true, leb-true, false≢true, false_from_ne_true, not-true}
-use Rattle.std.proofs.lemmas.List.Elements.{filter-append}
+use Rattle.std.proofs.lemmas.Bool.{or_cases, and_parts, ltb-true, leb-true, false≢true, false_from_ne_true, not-true}
 use Rattle.std.proofs.lemmas.Slice.Eq.{bytes_eq-Decides}
-use Rattle.ws_model.specs.declared.event.What.TheVariants.{Asked, Confirmed, Declined, Unheard, Barred, Noticed, Pinged, Fetched, Same, Unfetched, Pushed, Tally, Revoked}
+use Rattle.ws_model.specs.declared.event.What.TheVariants.{Pinged, Fetched, Same, Unfetched}
 use Rattle.ws_model.specs.declared.event.Event.{Event}
 use Rattle.ws_model.specs.declared.event.Version.{Version}
 use Rattle.ws_model.specs.declared.event.What.{What}
-use Rattle.ws_laws.proofs.Ended.{others}
 use Rattle.ws_laws.proofs.Known.{allowed, itself, sound}
 use Rattle.ws_laws.proofs.ListLaws.{all_append, all_filter_with, all_from, all_weaker, filter-filter, filter-map, filter_filter_on, map-map, map_same}
 use Rattle.ws_laws.specs.Steps.{fetches_after, latest_after, missed_more, unanswered}
 use Rattle.ws_model.specs.History.{has, since, times}
 use Rattle.ws_model.specs.Legal.{Legal, accepts, is_allowed, is_sound, is_sound_version, is_text}
-use Rattle.ws_model.specs.Moment.{fetched_number, last_serial, last_version, serial}
+use Rattle.ws_model.specs.Moment.{fetched_number, last_serial, last_version}
 use Rattle.ws_model.specs.Versions.{Ping, fetches, is_answer, is_owed_fetch, is_ping, is_ping_at, is_unfetched, is_version, latest, latest_of, missed_fetches, pings, pings_of, versions, versions_of}
 use Rattle.ws_model.specs.View.{OwedFetch, owed_fetch}
 

@@ -1,6 +1,6 @@
 -- The view at a later moment, and after one more event.
-use Rattle.std.proofs.Common.{◌≡◌, ℕ, ◌≤◌, ◌<◌, Bool, true, false, cond, List, [], ◌∷◌, length, refl, ap, sym, ◌∙◌, arith}
-use Rattle.std.specs.Prelude.{Option, Some, None, map, max, nat_lt, filter}
+use Rattle.std.proofs.Common.{◌≡◌, ℕ, ◌≤◌, ◌<◌, List, [], ◌∷◌, length, refl, ap, sym, ◌∙◌, arith}
+use Rattle.std.specs.Prelude.{Option, max}
 use Rattle.std.proofs.lemmas.List.{length-map}
 use Rattle.ws_model.specs.declared.fate.Cause.TheVariants.{Expired, Unsubscribed, Replaced, Gone, Spent, Revoked}
 use Rattle.ws_laws.proofs.Accounts.{expired_later_count, total_after, unexpired_later}
@@ -13,7 +13,7 @@ use Rattle.ws_laws.proofs.Topics.{fetches_step, latest_step}
 use Rattle.ws_laws.specs.Steps.{Advances, IsNewest, Steps, account_after, account_later, after, step}
 use Rattle.ws_model.specs.Account.{account, is_answered, is_ended, tallies_of}
 use Rattle.ws_model.specs.Intents.{notices, pending}
-use Rattle.ws_model.specs.Leases.{confirmed_intent, leases, live}
+use Rattle.ws_model.specs.Leases.{confirmed_intent}
 use Rattle.ws_model.specs.Legal.{Legal}
 use Rattle.ws_model.specs.Moment.{intent_number, last_serial, serial, time, version_number}
 use Rattle.ws_model.specs.Pairs.{owed}

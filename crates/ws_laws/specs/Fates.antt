@@ -1,5 +1,5 @@
 -- What fates, leases and due work keep to (own).
-use Rattle.std.specs.Prelude.{◌≡◌, ℕ, ◌≤◌, Bool, true, false, cond, List, [], ◌∷◌, ◌++◌, ◌==◌, ◌&&◌, Option, Some, None, find, filter}
+use Rattle.std.specs.Prelude.{◌≡◌, ℕ, ◌≤◌, true, false, List, [], ◌∷◌, ◌++◌, ◌==◌, Some, None, find}
 use Rattle.std.specs.List.{AllByRecursion, list_any}
 use Rattle.ws_model.specs.declared.event.Event.{Event}
 use Rattle.ws_model.specs.declared.lease.Lease.{Lease}

@@ -1,5 +1,5 @@
 -- How the view of a history goes on: to a later moment, and by one more event (own).
-use Rattle.std.specs.Prelude.{◌≡◌, ℕ, suc, ◌+◌, ◌-◌, ◌≤◌, ◌<◌, min, max, Bool, true, false, cond, not, ◌&&◌, ◌||◌, List, [], ◌∷◌, ◌++◌, map, length, nat_lt, nat_le, ◌==◌, bytes_eq, is_none, is_some, Option, Some, None, find, filter}
+use Rattle.std.specs.Prelude.{◌≡◌, ℕ, suc, ◌+◌, ◌≤◌, ◌<◌, min, max, Bool, true, false, cond, not, ◌&&◌, List, [], ◌∷◌, ◌++◌, map, length, nat_lt, nat_le, ◌==◌, bytes_eq, is_none, Option, Some, None, find, filter}
 use Rattle.std.specs.List.{list_any}
 use Rattle.ws_model.specs.declared.event.Event.{Event}
 use Rattle.ws_model.specs.declared.event.What.{What}
@@ -9,11 +9,10 @@ use Rattle.ws_model.specs.declared.event.Version.{Version}
 use Rattle.ws_model.specs.declared.lease.Lease.{Lease}
 use Rattle.ws_model.specs.declared.account.Account.{Account}
 use Rattle.ws_model.specs.declared.fate.Fate.{Fate}
-use Rattle.ws_model.specs.declared.fate.Fate.TheVariants.{Ended}
 use Rattle.ws_model.specs.declared.fate.Cause.TheVariants.{Expired, Unsubscribed, Replaced, Gone, Spent, Revoked as LeaseRevoked}
 use Rattle.ws_model.specs.Moment.{time, serial, intent_number, version_number, intent_number_in, version_number_in}
 use Rattle.ws_model.specs.Intents.{intents_of, is_settled, is_unheard, is_noticed, same_pair}
-use Rattle.ws_model.specs.Leases.{expiry, is_on, lease_by, lease_of, end_by}
+use Rattle.ws_model.specs.Leases.{expiry, lease_by, lease_of, end_by}
 use Rattle.ws_model.specs.Fate.{is_push, is_miss, is_done, delay, fate_by}
 use Rattle.ws_model.specs.Due.{place}
 use Rattle.ws_model.specs.Account.{is_answered, is_ended, most}

@@ -1,0 +1,12 @@
+//! HTTP/1.1 messages that come in any pieces, and the texts of those that are written (RFC 9112).
+#![tactic(auto)]
+
+mod fed;
+mod head;
+mod write;
+
+pub use fed::{BadWhy, Fed, Need};
+pub use write::{no_memory_answer, write_request, write_response};
+
+#[cfg(test)]
+mod tests;

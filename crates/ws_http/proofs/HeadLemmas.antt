@@ -4,7 +4,7 @@ use Rattle.std.specs.Prelude.{All}
 use Rattle.std.specs.List.{flat_map}
 use Rattle.std.proofs.lemmas.List.Elements.{All-head, All-tail}
 use Rattle.httparse.specs.Grammar.{LineEnd, crlf, lf, print_end, Field, print_field, IsField, print_section, RequestHead, print_request, ReadsRequest, ResponseHead, print_response, ReadsResponse, print_blank, print_version, print_reason}
-use Rattle.httparse.specs.Spans.{RequestExceeds, ResponseExceeds}
+use Rattle.httparse.specs.Spans.{RequestExceeds, ResponseExceeds, SectionExceeds}
 
 length_end : (e : LineEnd) → 1 ≤ length (print_end e)
 length_end crlf = omega arith
@@ -47,3 +47,10 @@ response_fits buf room short many x =
     let h = x.3 in
     omega (arith, ap length x.2, length-append x.0 x.1, ap length x.4.1, length-append x.0 (10 ∷ []), length_response h,
     length_fields h.fields x.4.0.fields, length-append (print_response h) [], x.5)
+
+-- the same of a trailer section
+pub section_fits : (buf : List ℕ) (room : ℕ) → length buf ≤ 16384 → 5462 ≤ room → SectionExceeds room buf → ⊥
+section_fits buf room short many x =
+    let fields = x.3 in
+    omega (arith, ap length x.2, length-append x.0 x.1, ap length x.4.1, length-append x.0 (10 ∷ []),
+    length_fields fields x.4.0, length-append (print_section fields lf) [], length-append (flat_map print_field fields) (print_end lf), x.5)

@@ -64,3 +64,20 @@ has_host minor fields = (minor == 0) || (how_many (codes "host") fields == 1)
 -- the fields of a head, by name and value
 abbrev pub fields_of : List Field → List (List ℕ × List ℕ)
 fields_of fields = map name_and_value fields
+
+-- the value is that one, whatever the case of its letters
+abbrev pub is_value : Option (List ℕ) → List ℕ → Bool
+is_value None value = false
+is_value (Some v) value = str_eq_ignore_ascii_case v value
+
+-- a framing by which there is a body to wait for
+abbrev pub has_body : Option Framing → Bool
+has_body None = false
+has_body (Some (Fixed n)) = nat_lt 0 n
+has_body (Some Chunked) = true
+
+-- The sender of an HTTP/1.1 request waits for an interim answer before it sends the body
+-- (RFC 9110, section 10.1.1).
+unfoldable pub expects_continue : ℕ → List (List ℕ × List ℕ) → Bool
+expects_continue minor fields =
+    (minor == 1) && is_value (first_value (codes "expect") fields) (codes "100-continue") && has_body (request_framing fields)

@@ -39,6 +39,18 @@ pub enum Judged {
     Head(usize, Framing),
 }
 
+/// The first 16,384 bytes, or all.
+pub fn front_of(bytes: &[u8]) -> &[u8]
+    ensures value { result.now ≡ take MAX_HEAD bytes.now }
+    ensures bound { length result.now ≤ MAX_HEAD }
+{
+    if bytes.len() > MAX_HEAD {
+        &bytes[..MAX_HEAD]
+    } else {
+        bytes
+    }
+}
+
 // Whether a field has that name, whatever the case of its letters.
 fn is_called(buf: &[u8], header: &HeaderSpan, name: &[u8]) -> bool
     requires { IsHeaderWithin (length buf.now) header.now }

@@ -1,6 +1,6 @@
 -- Which outcomes an exchange can have (own; RFC 9110 section 5.5 for the bytes of a field).
 use Rattle.std.specs.Prelude.{ℕ, Bool, true, ◌&&◌, List, length, nat_le}
-use Rattle.ws_model.specs.declared.work.Reply.{Reply as ReplyFields}
+use Rattle.ws_model.specs.declared.reply.Reply.{Reply as ReplyFields}
 use Rattle.ws_model.specs.declared.work.Outcome.{Outcome}
 use Rattle.ws_model.specs.declared.work.Outcome.TheVariants.{Reply}
 use Rattle.ws_model.specs.Legal.{body_limit, is_field_value, is_trimmed}

@@ -16,7 +16,7 @@ use Rattle.ws_model.specs.declared.fate.Fate.TheVariants.{Owed, Ended}
 use Rattle.ws_model.specs.declared.fate.Cause.TheVariants.{Expired}
 use Rattle.ws_model.specs.declared.work.Work.{Work}
 use Rattle.ws_model.specs.declared.work.Work.TheVariants.{Verify, Notice, Fetch, Push}
-use Rattle.ws_model.specs.declared.work.Reply.{Reply as ReplyFields}
+use Rattle.ws_model.specs.declared.reply.Reply.{Reply as ReplyFields}
 use Rattle.ws_model.specs.declared.work.Outcome.{Outcome}
 use Rattle.ws_model.specs.declared.work.Outcome.TheVariants.{Reply, Lost, Late, TooLong, Garbled}
 use Rattle.ws_model.specs.declared.answers.Settled.{Settled}

@@ -7,6 +7,7 @@ mod bytes;
 mod event;
 mod fate;
 mod lease;
+mod reply;
 mod work;
 
 pub use account::Account;
@@ -15,4 +16,5 @@ pub use bytes::{Bytes, Key, Keys, NoMemory, Pair};
 pub use event::{Alg, Event, Events, How, Intent, Mode, Tally, Version, What};
 pub use fate::{Cause, Fate};
 pub use lease::Lease;
-pub use work::{Held, Outcome, Reply, Work, delay};
+pub use reply::Reply;
+pub use work::{Held, Outcome, Work, delay};

@@ -4,7 +4,7 @@ ghost use Rattle.ws_model.specs.Fate.{delay};
 ghost use Rattle.ws_model.specs.Fit.{is_fit, is_fit_media, is_fit_reply, is_head_text};
 ghost use Rattle.ws_model.specs.Legal.{is_blank, is_trimmed};
 
-use crate::{Bytes, Key, NoMemory};
+use crate::{Key, NoMemory, Reply};
 use std::alloc::Global;
 use std::marker::Model;
 
@@ -23,17 +23,6 @@ pub enum Work {
     Notice { n: u64 },
     Fetch { topic: Key, upto: u64 },
     Push { ver: u64, lease: u64 },
-}
-
-/// What a peer answered: its status, the first Content-Type, the first Content-Encoding, all Link
-/// fields joined, and the body.
-#[derive(Debug, Drop, PartialEq)]
-pub struct Reply {
-    pub code: u16,
-    pub media: Bytes,
-    pub coding: Bytes,
-    pub links: Bytes,
-    pub body: Bytes,
 }
 
 /// How an exchange ended: with a reply, or without one.

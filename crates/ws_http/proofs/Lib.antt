@@ -1,0 +1,6 @@
+pub mod FieldLemmas
+pub mod HeadLemmas
+pub mod ChunkLemmas
+pub mod StageLemmas
+pub mod ReaderLemmas
+pub mod PartLemmas

@@ -1,0 +1,6 @@
+pub mod Texts
+pub mod Fields
+pub mod Heads
+pub mod Chunks
+pub mod Requests
+pub mod RequestStages

@@ -1,0 +1,17 @@
+//! HTTP/1.1 messages that come in any pieces, and the texts of those that are written (RFC 9112).
+#![tactic(auto)]
+
+mod chunk;
+mod fed;
+mod head;
+mod parts;
+mod request;
+mod stage;
+mod write;
+
+pub use fed::{BadWhy, Fed, Need};
+pub use request::RequestReader;
+pub use write::{no_memory_answer, write_request, write_response};
+
+#[cfg(test)]
+mod tests;

@@ -1,0 +1,209 @@
+// How far the bytes of a request have been read.
+ghost use Rattle.std.specs.Prelude.{◌≡◌, ◌≤◌, ◌<◌, ◌^◌, ◌+◌, length, drop, ◌++◌, [], ◌||◌, nat_lt, List, ℕ, MatchOption, vec_len, true, false};
+ghost use Rattle.std.specs.Vec.{vec_capacity};
+ghost use Rattle.ws_http.specs.Requests.{said, said_again, headed, is_headed};
+ghost use Rattle.ws_http.specs.RequestStages.{Ready, Stands, Closes, HasHead, HasChunks, is_last, verdict_of};
+ghost use Rattle.ws_http.specs.declared.head.Framing.TheVariants as framing;
+ghost use Rattle.ws_http.specs.declared.stage.Stage.TheVariants as stage;
+
+use crate::{BadWhy, Fed};
+use crate::chunk::{Next, next_chunk};
+use crate::head::{Framing, Judged, MAX_HEAD, front_of, judge};
+
+/// How far the bytes of a request have been read. Each number is one of bytes from the start.
+#[derive(Clone, Copy)]
+pub enum Stage {
+    /// The head isn't whole.
+    Head,
+    /// The head's length, and that of the whole message.
+    Fixed(usize, usize),
+    /// The head's length, and where the next chunk begins.
+    Chunked(usize, usize),
+    /// The head's length, that of the whole message, and whether the body is chunked.
+    Whole(usize, usize, bool),
+    /// The fault, and whether the head is whole and sound.
+    Bad(BadWhy, bool),
+}
+
+/// Puts the bytes behind others, for which room was made before.
+pub fn keep(kept: &mut Vec<u8>, bytes: &[u8])
+    requires { vec_len kept.old + length bytes.now ≤ vec_capacity kept.old }
+    ensures items { kept.new.items ≡ kept.old.items ++ bytes.now }
+    ensures capacity { vec_capacity kept.old ≤ vec_capacity kept.new }
+{
+    match kept.extend_from_slice(bytes) {
+        Ok(()) => {}
+        Err(_) => unreachable!(),
+    }
+}
+
+/// Reads on over the chunks behind the head, from the place where the next one begins.
+pub fn read_chunks(
+    raw: &[u8],
+    body: &mut Vec<u8>,
+    room: usize,
+    over: bool,
+    head: usize,
+    from: usize,
+) -> Stage
+    requires short { length raw.now ≤ room }
+    requires fits { room ≤ vec_capacity body.old }
+    requires large { room < 2 ^ 32 }
+    requires least { MAX_HEAD ≤ room }
+    requires head { HasHead raw.now head framing.Chunked }
+    requires chunks { HasChunks raw.now body.old.items head from }
+    ensures stands { Stands room raw.now over body.new.items result }
+    ensures ready { Ready room raw.now body.new.items result }
+    ensures closes { Closes over result }
+    ensures capacity { vec_capacity body.old ≤ vec_capacity body.new }
+{
+    let mut at = from;
+    'chunks: loop {
+        let (_, rest) = raw.split_at(at);
+        match next_chunk(rest) {
+            Next::Open if over => return Stage::Bad(BadWhy::TooLong, true),
+            Next::Open => return Stage::Chunked(head, at),
+            Next::Wrong => return Stage::Bad(BadWhy::Chunk, true),
+            Next::Last(used) => return Stage::Whole(head, at + used, true),
+            Next::Chunk(line, size) => {
+                let (_, after) = rest.split_at(line);
+                let (content, _) = after.split_at(size);
+                keep(body, content);
+                at += line + size + 2;
+            }
+        }
+    }
+}
+
+// A message whose sound head declares this length.
+fn read_fixed(raw: &[u8], room: usize, over: bool, head: usize, total: usize) -> Stage
+    requires short { length raw.now ≤ room }
+    requires least { MAX_HEAD ≤ room }
+    requires full { over ≡ true → length raw.now ≡ room }
+    requires ready { Ready room raw.now [] (stage.Fixed head total) }
+    ensures stands { (body : List ℕ) → Stands room raw.now over body result }
+    ensures ready { (body : List ℕ) → Ready room raw.now body result }
+    ensures closes { Closes over result }
+{
+    if raw.len() >= total {
+        Stage::Whole(head, total, false)
+    } else {
+        Stage::Fixed(head, total)
+    }
+}
+
+// Whether more bytes came than a head may have.
+fn passes_head(raw: &[u8], over: bool) -> bool
+    ensures { result ≡ (nat_lt 16384 (length raw.now) || over) }
+{
+    raw.len() > MAX_HEAD || over
+}
+
+// The bytes of a request, of which no head was whole before.
+fn read_head(raw: &[u8], body: &mut Vec<u8>, room: usize, over: bool) -> Stage
+    requires short { length raw.now ≤ room }
+    requires fits { room ≤ vec_capacity body.old }
+    requires large { room < 2 ^ 32 }
+    requires least { MAX_HEAD ≤ room }
+    requires full { over ≡ true → length raw.now ≡ room }
+    requires empty { body.old.items ≡ [] }
+    ensures stands { Stands room raw.now over body.new.items result }
+    ensures ready { Ready room raw.now body.new.items result }
+    ensures closes { Closes over result }
+    ensures capacity { vec_capacity body.old ≤ vec_capacity body.new }
+{
+    match judge(front_of(raw)) {
+        Judged::Open => {
+            if passes_head(raw, over) {
+                Stage::Bad(BadWhy::TooLong, false)
+            } else {
+                Stage::Head
+            }
+        }
+        Judged::Bad(why) => Stage::Bad(why, false),
+        Judged::Head(head, Framing::Chunked) => read_chunks(raw, body, room, over, head, head),
+        Judged::Head(head, Framing::Fixed(length)) => {
+            if length > (room - head) as u64 {
+                return Stage::Bad(BadWhy::TooLong, false);
+            }
+            read_fixed(raw, room, over, head, head + length as usize)
+        }
+    }
+}
+
+/// Reads on over the bytes that have come, of which more than there is room for came or not.
+pub fn read_on(
+    raw: &[u8],
+    body: &mut Vec<u8>,
+    room: usize,
+    over: bool,
+    from: Stage,
+) -> Stage
+    requires short { length raw.now ≤ room }
+    requires fits { room ≤ vec_capacity body.old }
+    requires large { room < 2 ^ 32 }
+    requires least { MAX_HEAD ≤ room }
+    requires full { over ≡ true → length raw.now ≡ room }
+    requires open { is_last from ≡ false }
+    requires ready { Ready room raw.now body.old.items from }
+    ensures stands { Stands room raw.now over body.new.items result }
+    ensures ready { Ready room raw.now body.new.items result }
+    ensures closes { Closes over result }
+    ensures capacity { vec_capacity body.old ≤ vec_capacity body.new }
+{
+    match from {
+        Stage::Head => read_head(raw, body, room, over),
+        Stage::Fixed(head, total) => read_fixed(raw, room, over, head, total),
+        Stage::Chunked(head, at) => read_chunks(raw, body, room, over, head, at),
+        Stage::Whole(..) => unreachable!(),
+        Stage::Bad(..) => unreachable!(),
+    }
+}
+
+/// What is said again at a last stage.
+pub fn again(stage: Stage) -> Option<Fed>
+    ensures { MatchOption result (is_last stage ≡ false) (λ answer. (is_last stage ≡ true)
+        × ((raw body : List ℕ) → answer ≡ said_again (verdict_of stage raw body))) }
+{
+    match stage {
+        Stage::Whole(..) => Some(Fed::Whole { used: 0 }),
+        Stage::Bad(why, _) => Some(Fed::Bad { why }),
+        _ => None,
+    }
+}
+
+/// What is said with a piece that stands behind so many bytes, between two stages.
+pub fn told(before: usize, old: Stage, new: Stage) -> Fed
+    ensures { (raw body now content : List ℕ) → result ≡ said before (verdict_of old raw body) (verdict_of new now content) }
+{
+    match new {
+        Stage::Whole(_, total, _) => Fed::Whole {
+            used: total.saturating_sub(before) as u64,
+        },
+        Stage::Bad(why, _) => Fed::Bad { why },
+        Stage::Head => Fed::More,
+        Stage::Fixed(..) => told_headed(old),
+        Stage::Chunked(..) => told_headed(old),
+    }
+}
+
+// What is said where the head is whole and the message isn't.
+fn told_headed(old: Stage) -> Fed
+    ensures { (raw body : List ℕ) (before : ℕ) → result ≡ said before (verdict_of old raw body) headed }
+{
+    match old {
+        Stage::Head => Fed::Head,
+        _ => Fed::More,
+    }
+}
+
+/// Whether the head is whole and sound.
+pub fn is_sound(stage: Stage) -> bool
+    ensures { (raw body : List ℕ) → result ≡ is_headed (verdict_of stage raw body) }
+{
+    match stage {
+        Stage::Head => false,
+        Stage::Bad(_, sound) => sound,
+        _ => true,
+    }
+}

@@ -1,4 +1,3 @@
-pub mod Cause
 pub mod Crash
 pub mod Gated
 pub mod Memory

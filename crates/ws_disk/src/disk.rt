@@ -1,6 +1,6 @@
 // A disk as the journal sees it: what a read gives, how often it failed, and what a crash may leave.
 ghost use Rattle.std.specs.Prelude.{◌≡◌, ◌<◌, ◌≤◌, ◌-◌, ◌↔◌, List, ℕ, min, length, take, drop, IfOk, OnOk, OnErr};
-ghost use Rattle.ws_disk.specs.Cause.{HasCause};
+ghost use Rattle.ws_model.specs.Cause.{HasCause};
 ghost use Rattle.ws_disk.specs.Crash.{overwritten, Torn, Cut, Follows, NoMore, Only, Elapses};
 
 /// A disk failed.

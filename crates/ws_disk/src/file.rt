@@ -1,6 +1,6 @@
 // The adapter over one file of the system. It tells contracts its count of faults alone.
 ghost use Rattle.std.specs.Prelude.{◌≡◌, ◌≤◌, length, IfOk};
-ghost use Rattle.ws_disk.specs.Cause.{HasCause};
+ghost use Rattle.ws_model.specs.Cause.{HasCause};
 ghost use Rattle.ws_disk.specs.Memory.{file_faults};
 
 use crate::{Disk, DiskFailed};

@@ -1,6 +1,6 @@
 // A record behind a gate, for any disk: what the clauses of a disk say of a run of its calls.
 ghost use Rattle.std.specs.Prelude.{◌≡◌, ◌<◌, ◌^◌, OnOk, IsErr};
-ghost use Rattle.ws_disk.specs.Cause.{Rose};
+ghost use Rattle.ws_model.specs.Cause.{Rose};
 ghost use Rattle.ws_disk.specs.Crash.{LeavesOnly, Only};
 ghost use Rattle.ws_disk.specs.Gated.{IsClosed, recovered, IsBeforeOrAfter};
 

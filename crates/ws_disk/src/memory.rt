@@ -25,7 +25,7 @@ pub struct MemDisk {
 }
 
 impl MemDisk {
-    ghost use Rattle.ws_disk.specs.Cause.{HasCause, Rose};
+    ghost use Rattle.ws_model.specs.Cause.{HasCause, Rose};
     ghost use Rattle.ws_disk.specs.Crash.{Only};
     ghost use Rattle.ws_disk.specs.Memory.{disk_content, disk_steps, disk_moment, disk_images, disk_faults, is_refused, is_too_long, IsCalm, IsPlanned, IsNumbered};
 
@@ -140,7 +140,7 @@ impl MemDisk {
 
 impl Disk for MemDisk {
     ghost use Rattle.ws_disk.specs.Record.{content_image, LeavesSince-grow};
-    ghost use Rattle.ws_disk.specs.Cause.{HasCause};
+    ghost use Rattle.ws_model.specs.Cause.{HasCause};
     ghost use Rattle.ws_disk.specs.Crash.{overwritten, Torn, Cut, Follows, NoMore, Only, Elapses};
     ghost use Rattle.ws_disk.specs.Memory.{disk_content, disk_steps, disk_moment, disk_images, disk_faults, is_refused, is_too_long, IsCalm, IsNumbered};
 

@@ -55,7 +55,7 @@ pub struct TornDisk {
 }
 
 impl TornDisk {
-    ghost use Rattle.ws_disk.specs.Cause.{Rose};
+    ghost use Rattle.ws_model.specs.Cause.{Rose};
     ghost use Rattle.ws_disk.specs.Memory.{torn_faults};
 
     /// An empty disk with room for so many bytes and so many calls. The calls whose numbers stand in

@@ -1,6 +1,6 @@
 -- The parts of a happening's text (own), and how a reading fails.
 use Rattle.std.specs.Prelude.{◌≡◌, ℕ, ◌≤◌, Bool, false, ◌==◌, List, [], ◌∷◌, ◌++◌, length, Result, IsErrOf}
-use Rattle.ws_link.specs.Cause.{Rose}
+use Rattle.ws_model.specs.Cause.{Rose}
 use Rattle.ws_drive.specs.declared.take.ReadFault.{ReadFault}
 use Rattle.ws_drive.specs.declared.take.ReadFault.TheVariants.{Failed}
 

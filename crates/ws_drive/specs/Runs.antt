@@ -2,7 +2,7 @@
 use Rattle.std.specs.Prelude.{◌≡◌, ◌<◌, ◌≤◌, ◌+◌, ℕ, false, List, [], ◌∷◌, ◌++◌, map, length, ◌⊎◌, Option, IfSome}
 use Rattle.std.specs.List.{AllByRecursion}
 use Rattle.std.specs.Io.KnownBytes.{Consumes, Appends}
-use Rattle.ws_link.specs.Cause.{Rose}
+use Rattle.ws_model.specs.Cause.{Rose}
 use Rattle.ws_link.specs.declared.status.Status.{Status}
 use Rattle.ws_link.specs.declared.status.Status.TheVariants as status
 use Rattle.ws_drive.specs.declared.script.Happening.{Happening}

@@ -1,7 +1,7 @@
 -- What one step of a run does to the source, the sink and the world (own).
 use Rattle.std.specs.Prelude.{◌≡◌, ◌≤◌, ℕ, false, List, [], Option, Result, Ok, Err, IfSome, IsErrOf}
 use Rattle.std.specs.Io.KnownBytes.{Consumes, Appends}
-use Rattle.ws_link.specs.Cause.{Rose}
+use Rattle.ws_model.specs.Cause.{Rose}
 use Rattle.ws_drive.specs.declared.script.Happening.{Happening}
 use Rattle.ws_drive.specs.declared.script.Happening.TheVariants as happens
 use Rattle.ws_drive.specs.declared.play.Turn.{Turn}

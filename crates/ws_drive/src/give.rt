@@ -1,7 +1,7 @@
 // Writes all the bytes.
 ghost use Rattle.std.specs.Prelude.{OnOk, OnErr};
 ghost use Rattle.std.specs.Io.KnownBytes.{Appends};
-ghost use Rattle.ws_link.specs.Cause.{HasCause};
+ghost use Rattle.ws_model.specs.Cause.{HasCause};
 ghost use Rattle.ws_drive.specs.Moves.{AppendsSome};
 
 use ws_link::{Sink, WriteFailed};

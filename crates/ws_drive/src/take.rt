@@ -1,6 +1,6 @@
 // Reads the happenings of a script, one after another.
 ghost use Rattle.std.specs.Prelude.{◌≡◌, ◌<◌, length};
-ghost use Rattle.ws_link.specs.Cause.{HasCause};
+ghost use Rattle.ws_model.specs.Cause.{HasCause};
 ghost use Rattle.ws_drive.specs.Moves.{TakesByte, TakesBytes, TakesPiece, Reads};
 ghost use Rattle.ws_drive.specs.Reading.{HasReadCause, HasSize, IsShortLine, with_line_feed};
 ghost use Rattle.ws_drive.specs.Script.{IsHappening, HasLine, bytes_behind, text};

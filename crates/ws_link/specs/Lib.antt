@@ -1,4 +1,3 @@
-pub mod Cause
 pub mod Pieces
 pub mod Memory
 pub mod StatusCode

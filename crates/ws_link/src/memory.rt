@@ -1,7 +1,7 @@
 // Sources and sinks in memory, for tests: they fail at the calls whose numbers, from 0, a list names.
 ghost use Rattle.std.specs.Prelude.{◌≡◌, ◌≤◌, ◌<◌, ◌||◌, ◌+◌, [], length, take, min, not, nat_lt, is_ok, IfOk, OnErr, vec_len, vec_capacity};
 ghost use Rattle.std.specs.Io.KnownBytes.{Consumes, Appends, IsAtEnd};
-ghost use Rattle.ws_link.specs.Cause.{HasCause};
+ghost use Rattle.ws_model.specs.Cause.{HasCause};
 ghost use Rattle.ws_link.specs.Pieces.{piece_size};
 
 use crate::{ReadFailed, Sink, Source, WriteFailed};

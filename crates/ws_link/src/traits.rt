@@ -1,7 +1,7 @@
 // Sources and sinks of bytes. None as what is left or was written says that the object tells nothing.
 ghost use Rattle.std.specs.Prelude.{◌≡◌, ◌<◌, ◌≤◌, ℕ, List, Option, length, take, IfOk, OnErr};
 ghost use Rattle.std.specs.Io.KnownBytes.{Consumes, Appends, IsAtEnd};
-ghost use Rattle.ws_link.specs.Cause.{HasCause};
+ghost use Rattle.ws_model.specs.Cause.{HasCause};
 
 /// A source failed.
 #[derive(Clone, Copy, Debug, PartialEq, Eq, thiserror::Error)]

@@ -1,3 +1,4 @@
+pub mod Cause
 pub mod Account
 pub mod Answer
 pub mod Asks

@@ -1,26 +1,29 @@
 -- What stands where a chunk should begin.
 use Rattle.std.proofs.Common.{◌≡◌, ℕ, ◌+◌, ◌<◌, ◌≤◌, Bool, true, false, cond, List, [], ◌∷◌, ◌++◌, length, take, drop, refl, sym, ap, ◌∙◌, subst, arith, eq-eqb, append_assoc, length-append, length-drop, length-take-le, take-append-drop, drop-drop}
-use Rattle.std.specs.Prelude.{MatchBool, ◌==◌, ◌&&◌, nat_lt}
-use Rattle.std.specs.List.{flat_map, AllByRecursion}
+use Rattle.std.specs.Prelude.{MatchBool, ◌==◌, ◌&&◌}
+use Rattle.std.specs.List.{AllByRecursion}
 use Rattle.std.proofs.lemmas.Bool.Decides.{nat_tests}
 use Rattle.std.proofs.lemmas.List.{flat_map_more}
 use Rattle.httparse.specs.Ascii.{crlf_bytes}
-use Rattle.httparse.specs.Grammar.{ChunkLine, chunk_size, print_chunk_line, IsChunkLine, ReadsChunkLine}
+use Rattle.httparse.specs.Grammar.{print_chunk_line}
 use Rattle.ws_http.specs.declared.chunk.Line.{Line}
 use Rattle.ws_http.specs.declared.chunk.Line.TheVariants as line
 use Rattle.ws_http.specs.declared.chunk.Section.{Section}
 use Rattle.ws_http.specs.declared.chunk.Section.TheVariants as section
 use Rattle.ws_http.specs.declared.chunk.Next.{Next}
 use Rattle.ws_http.specs.declared.chunk.Next.TheVariants as next
-use Rattle.ws_http.specs.Chunks.{Follows, LineIs, SectionIs, LineNext, TrailerNext, trailer_next, end_next, Chunk, IsChunk, print_chunk, print_chunks, chunk_data, After}
+use Rattle.ws_http.specs.Chunks.{Follows, LineIs, LineNext, TrailerNext, trailer_next, end_next, Chunk, IsChunk, print_chunk, print_chunks, chunk_data, After}
 
 -- behind a line with the size 0 stands the trailer section
 pub follows_last : (rest : List ℕ) (len size : ℕ) (n : Next) → LineIs rest (line.Whole len size) → size ≡ 0
     → TrailerNext len (drop len rest) n → Follows rest n
 unfolding Follows
-follows_last rest len size n is zero t =
-    (line.Whole len size, is, subst (λ (b : Bool). MatchBool b (TrailerNext len (drop len rest) n)
-        (n ≡ end_next len size (drop size (drop len rest)))) (sym (eq-eqb size 0 zero)) t)
+follows_last rest len size n is zero t = (
+  line.Whole len size,
+  is,
+  subst (λ (b : Bool). MatchBool b (TrailerNext len (drop len rest) n)
+      (n ≡ end_next len size (drop size (drop len rest)))) (sym (eq-eqb size 0 zero)) t,
+)
 
 -- a chunk was found: its line's length and its size
 pub record Found (rest : List ℕ) (len size : ℕ) : Type 0 where
@@ -103,8 +106,8 @@ chunk_reads rest len size f =
     let text : after ≡ take size after ++ (crlf_bytes ++ f.more) = sym (take-append-drop size after) ∙ ap (λ (t : List ℕ). take size after ++ t) f.end in
     let c : Chunk = record { line = l; content = take size after } in
     let whole : rest ≡ print_chunk c ++ f.more =
-        f.is.1.1 ∙ ap (λ (t : List ℕ). print_chunk_line l ++ t) text
-        ∙ simp append_assoc in
+    f.is.1.1 ∙ ap (λ (t : List ℕ). print_chunk_line l ++ t) text
+    ∙ simp append_assoc in
     record {
       chunk = c;
       is = record { line = f.is.1.0; size = sym f.is.3 ∙ sym taken; some = omega (arith, f.some) };

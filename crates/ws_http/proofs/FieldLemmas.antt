@@ -1,5 +1,5 @@
 -- One field more, in the walks over the fields of a head.
-use Rattle.std.proofs.Common.{◌≡◌, ℕ, ◌+◌, ◌*◌, ◌^◌, ◌<◌, ◌≤◌, Bool, true, false, cond, List, ◌∷◌, length, get_or, drop, map, refl, sym, ap, ◌∙◌, subst, arith, pow-add, Option, Some}
+use Rattle.std.proofs.Common.{◌≡◌, ℕ, ◌+◌, ◌*◌, ◌^◌, ◌<◌, ◌≤◌, Bool, false, cond, List, length, get_or, drop, map, ap, ◌∙◌, arith, pow-add, Some}
 use Rattle.std.proofs.Math.Nat.{pow-le-pow_right}
 use Rattle.std.proofs.lemmas.List.{at_drop_more}
 use Rattle.httparse.specs.declared.spans.HeaderSpan.{HeaderSpan}
@@ -7,7 +7,6 @@ use Rattle.httparse.specs.Spans.{header_bytes, span_bytes}
 use Rattle.ws_http.specs.Fields.{is_named, is_other_value, how_many, first_value, all_are}
 
 module _ (buf name : List ℕ) (hs : List HeaderSpan) (i : ℕ) (d : HeaderSpan) (inside : i < length hs) where
-
   pub one_more : (b : Bool) → is_named name (header_bytes buf (get_or hs i d)) ≡ b
       → how_many name (map (header_bytes buf) (drop i hs))
       ≡ cond b (how_many name (map (header_bytes buf) (drop (i + 1) hs)) + 1) (how_many name (map (header_bytes buf) (drop (i + 1) hs)))

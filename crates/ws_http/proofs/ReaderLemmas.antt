@@ -1,9 +1,9 @@
 -- A piece more, for a reader of requests.
-use Rattle.std.proofs.Common.{◌≡◌, ℕ, ◌+◌, ◌-◌, ◌<◌, ◌≤◌, Bool, true, false, not, cond, List, [], ◌∷◌, ◌++◌, length, take, drop, refl, sym, ap, ◌∙◌, subst, arith, append_assoc, length-append, length-drop, length-take, take-append-drop, zero, suc}
+use Rattle.std.proofs.Common.{◌≡◌, ℕ, ◌+◌, ◌-◌, ◌≤◌, Bool, true, false, not, List, [], ◌∷◌, ◌++◌, length, take, drop, refl, sym, ap, ◌∙◌, subst, arith, append_assoc, length-append, length-take, take-append-drop, zero, suc}
 use Rattle.std.specs.Prelude.{nat_lt, ◌==◌, min}
 use Rattle.std.proofs.lemmas.Bool.Decides.{nat_tests}
 use Rattle.std.proofs.lemmas.List.{take-take, take_all, take_min, take-append-le, drop-append-le}
-use Rattle.httparse.specs.Grammar.{RequestHead, print_request, ReadsRequest}
+use Rattle.httparse.specs.Grammar.{print_request}
 use Rattle.ws_http.specs.declared.fed.Fed.{Fed}
 use Rattle.ws_http.specs.declared.head.Framing.{Framing}
 use Rattle.ws_http.specs.declared.head.Framing.TheVariants as framing
@@ -11,9 +11,9 @@ use Rattle.ws_http.specs.declared.head.Judged.TheVariants as judged
 use Rattle.ws_http.specs.declared.stage.Stage.{Stage}
 use Rattle.ws_http.specs.declared.stage.Stage.TheVariants as stage
 use Rattle.ws_http.specs.Heads.{Judges, IsSound}
-use Rattle.ws_http.specs.Chunks.{After, print_chunks}
-use Rattle.ws_http.specs.Requests.{Verdict, is_final, said, IsRequest}
-use Rattle.ws_http.specs.RequestStages.{HasHead, HasChunks, Ready, Stands, Closes, is_last, verdict_of, verdict, Reading, Feeds}
+use Rattle.ws_http.specs.Chunks.{print_chunks}
+use Rattle.ws_http.specs.Requests.{is_final, said}
+use Rattle.ws_http.specs.RequestStages.{HasHead, HasChunks, Ready, Stands, Closes, is_last, verdict_of, Reading, Feeds}
 
 -- more bytes behind: the front of all begins with the front of the first
 pub front_more : (n : ℕ) (a b : List ℕ) → (z : List ℕ) × (take n (a ++ b) ≡ take n a ++ z)
@@ -110,8 +110,8 @@ feeds old piece raw body s over answer going_on short kept rest stands closes to
     let all = old.bytes ++ piece in
     let first : take old.room all ≡ raw = take_over old.room old.bytes piece short ∙ sym kept in
     let past : nat_lt old.room (length all) ≡ over =
-        ap (λ (k : ℕ). nat_lt old.room k) (length-append old.bytes piece)
-        ∙ over_by old.room (length old.bytes) (length piece) over (sym rest) short in
+    ap (λ (k : ℕ). nat_lt old.room k) (length-append old.bytes piece)
+    ∙ over_by old.room (length old.bytes) (length piece) over (sym rest) short in
     record {
       again = λ final. let no = final_last old.stage old.bytes old.content in absurd (cc);
       judged = λ _. stands all first past;

@@ -1,10 +1,9 @@
 -- What a stage of reading stands for, whatever came behind the bytes that are kept.
 use Rattle.std.proofs.Common.{◌≡◌, ℕ, ◌+◌, ◌-◌, ◌<◌, ◌≤◌, Bool, true, false, cond, List, [], ◌∷◌, ◌++◌, length, take, drop, refl, sym, ap, ◌∙◌, subst, arith, length-append, length-drop, length-take, drop-drop}
-use Rattle.std.specs.Prelude.{nat_lt, nat_le, min, ◌||◌, ◌⊎◌}
+use Rattle.std.specs.Prelude.{nat_lt, nat_le, min, ◌||◌}
 use Rattle.std.proofs.lemmas.Bool.Decides.{nat_tests}
 use Rattle.std.proofs.lemmas.List.{take-take, drop-take}
 use Rattle.ws_http.specs.declared.fed.BadWhy.TheVariants as why
-use Rattle.ws_http.specs.declared.head.Framing.{Framing}
 use Rattle.ws_http.specs.declared.head.Framing.TheVariants as framing
 use Rattle.ws_http.specs.declared.head.Judged.{Judged}
 use Rattle.ws_http.specs.declared.head.Judged.TheVariants as judged

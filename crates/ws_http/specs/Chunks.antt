@@ -1,6 +1,6 @@
 -- The chunked body (RFC 9112, section 7.1), on the chunk lines and the field sections of the crate
 -- `httparse`: whole chunks one after another, and what stands behind them.
-use Rattle.std.specs.Prelude.{◌≡◌, ℕ, ◌+◌, ◌<◌, ◌≤◌, Bool, ◌&&◌, if◌then◌else◌, ◌==◌, nat_lt, List, [], ◌∷◌, ◌++◌, length, take, drop, MatchBool, ⊤}
+use Rattle.std.specs.Prelude.{◌≡◌, ℕ, ◌+◌, ◌<◌, ◌≤◌, ◌&&◌, if◌then◌else◌, ◌==◌, nat_lt, List, [], ◌∷◌, ◌++◌, length, take, drop, MatchBool, ⊤}
 use Rattle.std.specs.List.{flat_map, AllByRecursion}
 use Rattle.httparse.specs.Ascii.{crlf_bytes}
 use Rattle.httparse.specs.Grammar.{LineEnd, Field, print_section, ReadsSection, HasNoSection, MayBecomeSection, NeverHasSection, ChunkLine, chunk_size, print_chunk_line, IsChunkLine, ReadsChunkLine, HasNoChunkLine, MayBecomeChunkLine, NeverHasChunkLine}

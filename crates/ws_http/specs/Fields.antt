@@ -3,7 +3,7 @@
 use Rattle.std.specs.Prelude.{ℕ, ◌+◌, ◌-◌, ◌*◌, Bool, true, false, not, ◌&&◌, ◌||◌, if◌then◌else◌, ◌==◌, nat_lt, nat_le, List, [], ◌∷◌, length, map, Option, Some, None, option_map, codes}
 use Rattle.std.specs.Char.{is_ascii_digit}
 use Rattle.std.specs.Str.{str_eq_ignore_ascii_case}
-use Rattle.httparse.specs.Grammar.{Field, RequestHead, ResponseHead}
+use Rattle.httparse.specs.Grammar.{Field}
 use Rattle.httparse.specs.Spans.{name_and_value}
 use Rattle.ws_http.specs.declared.head.Framing.{Framing}
 use Rattle.ws_http.specs.declared.head.Framing.TheVariants.{Fixed, Chunked}
@@ -51,11 +51,11 @@ unfoldable pub request_framing : List (List ℕ × List ℕ) → Option Framing
 request_framing fields =
     if nat_lt 0 (how_many (codes "transfer-encoding") fields)
     then (
-        if nat_lt 0 (how_many (codes "content-length") fields) || not (all_are (codes "transfer-encoding") (codes "chunked") fields)
-        then None else Some Chunked)
+    if nat_lt 0 (how_many (codes "content-length") fields) || not (all_are (codes "transfer-encoding") (codes "chunked") fields)
+    then None else Some Chunked)
     else (
-        if nat_lt 1 (how_many (codes "content-length") fields)
-        then None else declared_length (first_value (codes "content-length") fields))
+    if nat_lt 1 (how_many (codes "content-length") fields)
+    then None else declared_length (first_value (codes "content-length") fields))
 
 -- Each HTTP/1.1 request has exactly one Host field (RFC 9112, section 3.2).
 unfoldable pub has_host : ℕ → List (List ℕ × List ℕ) → Bool

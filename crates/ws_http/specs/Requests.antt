@@ -1,6 +1,6 @@
 -- What the bytes of a request say, as many as have come (RFC 9112, sections 2 to 7, in this hub's
 -- profile: a head of at most 16,384 bytes, and a message of at most `room` bytes).
-use Rattle.std.specs.Prelude.{◌≡◌, ℕ, ◌+◌, ◌-◌, ◌≤◌, Bool, true, false, if◌then◌else◌, nat_lt, nat_le, List, [], ◌++◌, length, take, drop, ⊤}
+use Rattle.std.specs.Prelude.{◌≡◌, ℕ, ◌+◌, ◌-◌, Bool, true, false, if◌then◌else◌, nat_lt, nat_le, List, length, take, drop, ⊤}
 use Rattle.ws_http.specs.declared.fed.BadWhy.{BadWhy}
 use Rattle.ws_http.specs.declared.fed.BadWhy.TheVariants as why
 use Rattle.ws_http.specs.declared.fed.Fed.{Fed}
@@ -99,3 +99,18 @@ IsWhole unfinished = ⊥
 IsWhole headed = ⊥
 IsWhole (whole n body) = ⊤
 IsWhole (bad reason sound) = ⊥
+
+-- a fault of that reason
+abbrev pub IsBad : BadWhy → Verdict → Type 0
+IsBad reason unfinished = ⊥
+IsBad reason headed = ⊥
+IsBad reason (whole n body) = ⊥
+IsBad reason (bad found sound) = found ≡ reason
+
+-- what an answer tells of the verdict
+abbrev pub Tells : Fed → Verdict → Type 0
+Tells fed.More v = is_final v ≡ false
+Tells fed.Head v = v ≡ headed
+Tells (fed.Whole used) v = IsWhole v
+Tells (fed.Bad reason) v = IsBad reason v
+Tells fed.NoMemory v = ⊥

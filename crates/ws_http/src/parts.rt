@@ -68,7 +68,9 @@ fn awaits(buf: &[u8], version: u8, headers: &[HeaderSpan]) -> bool
     requires { All (IsHeaderWithin (length buf.now)) headers.now }
     ensures { result ≡ expects_continue version (map (header_bytes buf.now) headers.now) }
 {
-    version == 1 && names_continue(first_named(buf, headers, b"expect")) && comes(framing_of(buf, headers))
+    version == 1
+        && names_continue(first_named(buf, headers, b"expect"))
+        && comes(framing_of(buf, headers))
 }
 
 // Whether the value names the interim answer 100.

@@ -3,7 +3,7 @@ ghost use Rattle.std.specs.Prelude.{◌≡◌, ◌≤◌, IfOk, ℕ, List, take,
 ghost use Rattle.std.specs.Option.{option_copied};
 ghost use Rattle.httparse.specs.Grammar.{RequestHead, ReadsRequest};
 ghost use Rattle.ws_http.specs.Fields.{first_value, fields_of, expects_continue};
-ghost use Rattle.ws_http.specs.Requests.{is_headed, IsWhole, whole};
+ghost use Rattle.ws_http.specs.Requests.{is_headed, IsWhole, Tells, whole};
 
 use crate::Fed;
 use crate::head::MAX_HEAD;
@@ -68,7 +68,8 @@ impl RequestReader {
     ///
     /// After Whole or Bad each later feed says the same, with `used` 0. It doesn't answer NoMemory.
     pub fn feed(&mut self, piece: &[u8]) -> Fed
-        ensures { Feeds self.old piece.now self.new result }
+        ensures feeds { Feeds self.old piece.now self.new result }
+        ensures tells { Tells result (verdict self.new) }
     {
         if let Some(answer) = again(self.stage) {
             return answer;

@@ -1,14 +1,14 @@
 // How far the bytes of a request have been read.
 ghost use Rattle.std.specs.Prelude.{◌≡◌, ◌≤◌, ◌<◌, ◌^◌, ◌+◌, length, drop, ◌++◌, [], ◌||◌, nat_lt, List, ℕ, MatchOption, vec_len, true, false};
 ghost use Rattle.std.specs.Vec.{vec_capacity};
-ghost use Rattle.ws_http.specs.Requests.{said, said_again, headed, is_headed};
+ghost use Rattle.ws_http.specs.Requests.{said, said_again, headed, is_headed, Tells};
 ghost use Rattle.ws_http.specs.RequestStages.{Ready, Stands, Closes, HasHead, HasChunks, is_last, verdict_of};
 ghost use Rattle.ws_http.specs.declared.head.Framing.TheVariants as framing;
 ghost use Rattle.ws_http.specs.declared.stage.Stage.TheVariants as stage;
 
-use crate::{BadWhy, Fed};
 use crate::chunk::{Next, next_chunk};
 use crate::head::{Framing, Judged, MAX_HEAD, front_of, judge};
+use crate::{BadWhy, Fed};
 
 /// How far the bytes of a request have been read. Each number is one of bytes from the start.
 #[derive(Clone, Copy)]
@@ -132,13 +132,7 @@ fn read_head(raw: &[u8], body: &mut Vec<u8>, room: usize, over: bool) -> Stage
 }
 
 /// Reads on over the bytes that have come, of which more than there is room for came or not.
-pub fn read_on(
-    raw: &[u8],
-    body: &mut Vec<u8>,
-    room: usize,
-    over: bool,
-    from: Stage,
-) -> Stage
+pub fn read_on(raw: &[u8], body: &mut Vec<u8>, room: usize, over: bool, from: Stage) -> Stage
     requires short { length raw.now ≤ room }
     requires fits { room ≤ vec_capacity body.old }
     requires large { room < 2 ^ 32 }
@@ -163,7 +157,8 @@ pub fn read_on(
 /// What is said again at a last stage.
 pub fn again(stage: Stage) -> Option<Fed>
     ensures { MatchOption result (is_last stage ≡ false) (λ answer. (is_last stage ≡ true)
-        × ((raw body : List ℕ) → answer ≡ said_again (verdict_of stage raw body))) }
+        × ((raw body : List ℕ) → answer ≡ said_again (verdict_of stage raw body))
+        × ((raw body : List ℕ) → Tells answer (verdict_of stage raw body))) }
 {
     match stage {
         Stage::Whole(..) => Some(Fed::Whole { used: 0 }),
@@ -174,7 +169,8 @@ pub fn again(stage: Stage) -> Option<Fed>
 
 /// What is said with a piece that stands behind so many bytes, between two stages.
 pub fn told(before: usize, old: Stage, new: Stage) -> Fed
-    ensures { (raw body now content : List ℕ) → result ≡ said before (verdict_of old raw body) (verdict_of new now content) }
+    ensures value { (raw body now content : List ℕ) → result ≡ said before (verdict_of old raw body) (verdict_of new now content) }
+    ensures tells { (now content : List ℕ) → Tells result (verdict_of new now content) }
 {
     match new {
         Stage::Whole(_, total, _) => Fed::Whole {
@@ -189,7 +185,8 @@ pub fn told(before: usize, old: Stage, new: Stage) -> Fed
 
 // What is said where the head is whole and the message isn't.
 fn told_headed(old: Stage) -> Fed
-    ensures { (raw body : List ℕ) (before : ℕ) → result ≡ said before (verdict_of old raw body) headed }
+    ensures value { (raw body : List ℕ) (before : ℕ) → result ≡ said before (verdict_of old raw body) headed }
+    ensures tells { Tells result headed }
 {
     match old {
         Stage::Head => Fed::Head,

@@ -1,11 +1,294 @@
-use crate::{no_memory_answer, write_request, write_response};
+use crate::{BadWhy, Fed, RequestReader, no_memory_answer, write_request, write_response};
+use std::process::Abort;
 use std::test::Fail;
 use ws_model::{Bytes, Pair};
 
 #[test]
 fn answers_written(rt: HostRuntime) -> Result<(), Fail> {
     let answer = write_response(rt.alloc(), 202, false, b"accepted")?;
+    // counted by hand, line by line
     assert_eq!(rt; answer.as_slice().len(), 113);
-    assert_eq!(rt; no_memory_answer().len(), 133);
+    let refusal = write_response(rt.alloc(), 405, true, b"post only")?;
+    assert_eq!(rt;
+        refusal.as_slice(),
+        b"HTTP/1.1 405 Method Not Allowed\r\nAllow: POST\r\nContent-Type: text/plain; charset=utf-8\r\nContent-Length: 10\r\nConnection: close\r\n\r\npost only\n".as_slice()
+    );
+    let full = write_response(rt.alloc(), 507, false, b"no memory")?;
+    assert_eq!(rt; full.as_slice(), no_memory_answer());
+    Ok(())
+}
+
+#[test]
+fn request_written(rt: HostRuntime) -> Result<(), Fail> {
+    let host = Pair {
+        name: Bytes::copy(rt.alloc(), b"Host")?,
+        value: Bytes::copy(rt.alloc(), b"a.example")?,
+    };
+    let text = write_request(rt.alloc(), b"GET", b"/x?y", [host].as_slice(), b"")?;
+    assert_eq!(rt;
+        text.as_slice(),
+        b"GET /x?y HTTP/1.1\r\nHost: a.example\r\nConnection: close\r\n\r\n".as_slice()
+    );
+    Ok(())
+}
+
+// Feeds a request in pieces of a size, and gives the first answer that is neither More nor Head, and
+// how often Head came; the used bytes are counted from the start.
+fn fed(rt: &(impl Abort + AllocGlobal), bytes: &[u8], size: usize) -> Result<(Fed, u64), Fail> {
+    let mut reader = RequestReader::made(rt.alloc())?;
+    let mut heads: u64 = 0;
+    let mut before: u64 = 0;
+    for piece in bytes.chunks(size.max(1)) {
+        match reader.feed(piece) {
+            Fed::More => {}
+            Fed::Head => heads = heads.saturating_add(1),
+            Fed::Whole { used } => {
+                assert_eq!(rt; reader.feed(piece), Fed::Whole { used: 0 });
+                return Ok((
+                    Fed::Whole {
+                        used: used.saturating_add(before),
+                    },
+                    heads,
+                ));
+            }
+            other => {
+                assert_eq!(rt; reader.feed(piece), other);
+                return Ok((other, heads));
+            }
+        }
+        before = before.saturating_add(piece.len() as u64);
+    }
+    Ok((Fed::More, heads))
+}
+
+fn bad(why: BadWhy) -> Fed {
+    Fed::Bad { why }
+}
+
+// The data of the chunks is the body.
+#[test]
+fn chunked_request_body(rt: HostRuntime) -> Result<(), Fail> {
+    let mut reader = RequestReader::made(rt.alloc())?;
+    let text =
+        b"POST / HTTP/1.1\r\nHost: a\r\nTransfer-Encoding: chunked\r\n\r\n2\r\nab\r\n1;x\r\nc\r\n0\r\n\r\n";
+    match reader.feed(text) {
+        Fed::Whole { used } => {
+            assert_eq!(rt; used, text.len() as u64);
+            assert_eq!(rt; reader.body(), b"abc".as_slice());
+        }
+        other => assert_eq!(rt; other, Fed::More),
+    }
+    let mut plain = RequestReader::made(rt.alloc())?;
+    match plain.feed(b"POST / HTTP/1.1\r\nHost: a\r\nContent-Length: 2\r\n\r\nabc") {
+        Fed::Whole { used: _ } => assert_eq!(rt; plain.body(), b"ab".as_slice()),
+        other => assert_eq!(rt; other, Fed::More),
+    }
+    Ok(())
+}
+
+// Each request with its answer, worked out by hand (lengths counted by Python's len) from RFC 9112 and the limits.
+#[test]
+fn requests_in_any_pieces(rt: HostRuntime) -> Result<(), Fail> {
+    let table: [(&[u8], Fed); 40] = [
+        (
+            b"GET / HTTP/1.1\r\nHost: a\r\n\r\n",
+            Fed::Whole { used: 27 },
+        ),
+        (b"GET / HTTP/1.1\nHost: a\n\n", Fed::Whole { used: 24 }),
+        (
+            b"\r\nGET / HTTP/1.1\r\nHost: a\r\n\r\n",
+            Fed::Whole { used: 29 },
+        ),
+        (b"GET / HTTP/1.0\r\n\r\n", Fed::Whole { used: 18 }),
+        (b"GET / HTTP/1.1\r\nhOST:\r\n\r\n", Fed::Whole { used: 25 }),
+        (b"GET / HTTP/1.1\r\n\r\n", bad(BadWhy::Host)),
+        (
+            b"GET / HTTP/1.1\r\nHost: a\r\nHost: a\r\n\r\n",
+            bad(BadWhy::Host),
+        ),
+        (b"GET / HTTP/1.1\r\nHost: a\r\n", Fed::More),
+        (
+            b"GET / HTTP/1.1\r\nHost: a\r\n\r\nxyz",
+            Fed::Whole { used: 27 },
+        ),
+        (b"G\x01T / HTTP/1.1\r\nHost: a\r\n\r\n", bad(BadWhy::Head)),
+        (b"GET  / HTTP/1.1\r\nHost: a\r\n\r\n", bad(BadWhy::Head)),
+        (b"GET / HTTP/2.0\r\nHost: a\r\n\r\n", bad(BadWhy::Head)),
+        (b"GET / HTTP/1.1\r\nHo st: a\r\n\r\n", bad(BadWhy::Head)),
+        (
+            b"POST / HTTP/1.1\r\nHost: a\r\nContent-Length: 3\r\n\r\nabc",
+            Fed::Whole { used: 50 },
+        ),
+        (
+            b"POST / HTTP/1.1\r\nHost: a\r\nContent-Length: 3\r\n\r\nab",
+            Fed::More,
+        ),
+        (
+            b"POST / HTTP/1.1\r\nHost: a\r\nContent-Length: 3\r\n\r\nabcd",
+            Fed::Whole { used: 50 },
+        ),
+        (
+            b"POST / HTTP/1.1\r\nHost: a\r\nContent-Length: 0\r\n\r\n",
+            Fed::Whole { used: 47 },
+        ),
+        (
+            b"POST / HTTP/1.1\r\nHost: a\r\nContent-Length: \r\n\r\n",
+            bad(BadWhy::Framing),
+        ),
+        (
+            b"POST / HTTP/1.1\r\nHost: a\r\nContent-Length: 3, 3\r\n\r\n",
+            bad(BadWhy::Framing),
+        ),
+        (
+            b"POST / HTTP/1.1\r\nHost: a\r\nContent-Length: +3\r\n\r\n",
+            bad(BadWhy::Framing),
+        ),
+        (
+            b"POST / HTTP/1.1\r\nHost: a\r\nContent-Length: 3\r\nContent-Length: 3\r\n\r\n",
+            bad(BadWhy::Framing),
+        ),
+        (
+            b"POST / HTTP/1.1\r\nHost: a\r\nContent-Length: 000000000000000002\r\n\r\nab",
+            Fed::Whole { used: 66 },
+        ),
+        (
+            b"POST / HTTP/1.1\r\nHost: a\r\nContent-Length: 0000000000000000002\r\n\r\nab",
+            bad(BadWhy::Framing),
+        ),
+        (
+            b"POST / HTTP/1.1\r\nHost: a\r\nContent-Length: 16333\r\n\r\n",
+            Fed::More,
+        ),
+        (
+            b"POST / HTTP/1.1\r\nHost: a\r\nContent-Length: 16334\r\n\r\n",
+            bad(BadWhy::TooLong),
+        ),
+        (
+            b"POST / HTTP/1.1\r\nHost: a\r\nTransfer-Encoding: gzip\r\n\r\n",
+            bad(BadWhy::Framing),
+        ),
+        (
+            b"POST / HTTP/1.1\r\nHost: a\r\nTransfer-Encoding: gzip, chunked\r\n\r\n",
+            bad(BadWhy::Framing),
+        ),
+        (
+            b"POST / HTTP/1.1\r\nHost: a\r\nTransfer-Encoding: chunked\r\nContent-Length: 3\r\n\r\n",
+            bad(BadWhy::Framing),
+        ),
+        (
+            b"POST / HTTP/1.1\r\nHost: a\r\nTransfer-Encoding: Chunked\r\n\r\n0\r\n\r\n",
+            Fed::Whole { used: 61 },
+        ),
+        (
+            b"POST / HTTP/1.1\r\nHost: a\r\nTransfer-Encoding: chunked\r\nTransfer-Encoding: chunked\r\n\r\n2\r\nab\r\n0\r\n\r\n",
+            Fed::Whole { used: 96 },
+        ),
+        (
+            b"POST / HTTP/1.1\r\nHost: a\r\nTransfer-Encoding: chunked\r\n\r\n2;x=y\r\nab\r\n00\r\nT: v\r\n\r\nzz",
+            Fed::Whole { used: 79 },
+        ),
+        (
+            b"POST / HTTP/1.1\r\nHost: a\r\nTransfer-Encoding: chunked\r\n\r\nzz\r\n",
+            bad(BadWhy::Chunk),
+        ),
+        (
+            b"POST / HTTP/1.1\r\nHost: a\r\nTransfer-Encoding: chunked\r\n\r\n2\r\nabc\r\n",
+            bad(BadWhy::Chunk),
+        ),
+        (
+            b"POST / HTTP/1.1\r\nHost: a\r\nTransfer-Encoding: chunked\r\n\r\n2\r\nab\rx",
+            bad(BadWhy::Chunk),
+        ),
+        (
+            b"POST / HTTP/1.1\r\nHost: a\r\nTransfer-Encoding: chunked\r\n\r\n0\r\nT\x01: v\r\n\r\n",
+            bad(BadWhy::Chunk),
+        ),
+        (
+            b"POST / HTTP/1.1\r\nHost: a\r\nTransfer-Encoding: chunked\r\n\r\n0\r\nT: v\r\n",
+            Fed::More,
+        ),
+        (
+            b"POST / HTTP/1.1\r\nHost: a\r\nTransfer-Encoding: chunked\r\n\r\nffff\r\nab",
+            Fed::More,
+        ),
+        (
+            b"POST / HTTP/1.0\r\nTransfer-Encoding: chunked\r\n\r\n1\r\na\r\n0\r\n\r\n",
+            Fed::Whole { used: 58 },
+        ),
+        (
+            b"POST /x HTTP/1.1\r\nHost: a\r\nTransfer-Encoding: chunked\r\n\r\n11111111111111111\r\n",
+            bad(BadWhy::Chunk),
+        ),
+        (b"", Fed::More),
+    ];
+    for (bytes, answer) in table.iter() {
+        for size in [1, 7, 100_000] {
+            let (said, heads) = fed(&rt, bytes, size)?;
+            assert_eq!(rt; said, *answer, "{bytes:?} in pieces of {size}");
+            assert!(rt; heads <= 1);
+        }
+    }
+    Ok(())
+}
+
+// A body or a chunk's data that fills a message up to its limit of 16,384 bytes, and one byte more.
+#[test]
+fn requests_at_their_limits(rt: HostRuntime) -> Result<(), Fail> {
+    // a head of 51 bytes, so that 16,333 are left
+    let head = b"POST / HTTP/1.1\r\nHost: a\r\nContent-Length: 16333\r\n\r\n";
+    let mut at = head.to_vec(rt.alloc())?;
+    at.resize(16_384, b'x')?;
+    let mut over = b"POST / HTTP/1.1\r\nHost: a\r\nContent-Length: 16334\r\n\r\n".to_vec(
+        rt.alloc(),
+    )?;
+    over.resize(16_385, b'x')?;
+    // a head without an end
+    let mut open = b"GET / HTTP/1.1\r\nHost: ".to_vec(rt.alloc())?;
+    open.resize(16_384, b'x')?;
+    let mut long = open.clone()?;
+    long.push(b'x')?;
+    // 56 bytes of head, 6 of the chunk's line, 16,315 = 0x3fbb of data, 2 of its end, 5 of the last chunk
+    let mut chunked =
+        b"POST / HTTP/1.1\r\nHost: a\r\nTransfer-Encoding: chunked\r\n\r\n3fbb\r\n".to_vec(
+            rt.alloc(),
+        )?;
+    chunked.resize(62 + 16_315, b'x')?;
+    chunked.extend_from_slice(b"\r\n0\r\n\r\n")?;
+    let mut endless =
+        b"POST / HTTP/1.1\r\nHost: a\r\nTransfer-Encoding: chunked\r\n\r\nffff\r\n".to_vec(
+            rt.alloc(),
+        )?;
+    endless.resize(16_384, b'x')?;
+    let mut past = endless.clone()?;
+    past.push(b'x')?;
+    for size in [1000, 16_384, 20_000] {
+        assert_eq!(rt; fed(&rt, &at, size)?.0, Fed::Whole { used: 16_384 });
+        assert_eq!(rt; fed(&rt, &over, size)?.0, bad(BadWhy::TooLong));
+        assert_eq!(rt; fed(&rt, &open, size)?.0, Fed::More);
+        assert_eq!(rt; fed(&rt, &long, size)?.0, bad(BadWhy::TooLong));
+        assert_eq!(rt; fed(&rt, &chunked, size)?.0, Fed::Whole { used: 16_384 });
+        assert_eq!(rt; fed(&rt, &endless, size)?.0, Fed::More);
+        assert_eq!(rt; fed(&rt, &past, size)?.0, bad(BadWhy::TooLong));
+    }
+    Ok(())
+}
+
+// The request of a known client, in pieces of one byte.
+#[test]
+fn request_fed_byte_by_byte(rt: HostRuntime) -> Result<(), Fail> {
+    let text =
+        b"POST / HTTP/1.1\r\nHost: 127.0.0.1:8080\r\nUser-Agent: curl/8.5.0\r\nAccept: */*\r\nContent-Length: 5\r\nContent-Type: application/x-www-form-urlencoded\r\nExpect: 100-continue\r\n\r\na=b&c";
+    let mut reader = RequestReader::made_for(rt.alloc(), 20_000)?;
+    let mut answer = Fed::More;
+    for byte in text.chunks(1) {
+        answer = reader.feed(byte);
+    }
+    assert_eq!(rt; answer, Fed::Whole { used: 1 });
+    assert!(rt; reader.headed());
+    assert_eq!(rt; reader.method(), b"POST".as_slice());
+    assert_eq!(rt; reader.target(), b"/".as_slice());
+    assert_eq!(rt; reader.field(b"user-agent"), Some(b"curl/8.5.0".as_slice()));
+    assert_eq!(rt; reader.field(b"content-encoding"), None);
+    assert!(rt; reader.expects());
     Ok(())
 }

@@ -102,12 +102,7 @@ fn put_status(alloc: Global, text: &mut Vec<u8>, code: u16) -> Result<(), NoMemo
 ///
 /// NoMemory is the one error.
 #[tactic(auto, unfolding(crate::specs::Texts::response_text))]
-pub fn write_response(
-    alloc: Global,
-    code: u16,
-    allow: bool,
-    text: &[u8],
-) -> Result<Bytes, NoMemory>
+pub fn write_response(alloc: Global, code: u16, allow: bool, text: &[u8]) -> Result<Bytes, NoMemory>
     requires known { is_answer_code code ≡ true }
     requires allows { allow ≡ (code == 405) }
     ensures { IfOk result (λ answer. answer ≡ response_text code allow text.now) }
@@ -117,7 +112,10 @@ pub fn write_response(
     if allow {
         put(&mut answer, b"Allow: POST\r\n")?;
     }
-    put(&mut answer, b"Content-Type: text/plain; charset=utf-8\r\nContent-Length: ")?;
+    put(
+        &mut answer,
+        b"Content-Type: text/plain; charset=utf-8\r\nContent-Length: ",
+    )?;
     put_number(alloc, &mut answer, text.len() + 1)?;
     put(&mut answer, b"\r\nConnection: close\r\n\r\n")?;
     put(&mut answer, text)?;
@@ -125,7 +123,8 @@ pub fn write_response(
     Ok(Bytes::from_vec(answer))
 }
 
-const NO_MEMORY_TEXT: &[u8] = b"HTTP/1.1 507 Insufficient Storage\r\nContent-Type: text/plain; charset=utf-8\r\nContent-Length: 10\r\nConnection: close\r\n\r\nno memory\n";
+const NO_MEMORY_TEXT: &[u8] =
+    b"HTTP/1.1 507 Insufficient Storage\r\nContent-Type: text/plain; charset=utf-8\r\nContent-Length: 10\r\nConnection: close\r\n\r\nno memory\n";
 
 /// The answer 507 `no memory`, which takes no memory.
 pub fn no_memory_answer() -> &'static [u8]

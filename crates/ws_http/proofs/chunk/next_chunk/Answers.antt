@@ -1,4 +1,3 @@
-use Rattle.std.proofs.Common.{◌≡◌}
 use Rattle.ws_http.proofs.ChunkLemmas.{follows_last}
 use Rattle.ws_http.proofs.chunk.next_chunk.Goals as goal
 

@@ -1,4 +1,4 @@
-use Rattle.std.proofs.Common.{◌≡◌, ◌<◌, ◌≤◌, arith, rules}
+use Rattle.std.proofs.Common.{arith, rules}
 use Rattle.ws_http.proofs.HeadLemmas.{section_fits}
 use Rattle.ws_http.proofs.chunk.read_section.Goals as goal
 

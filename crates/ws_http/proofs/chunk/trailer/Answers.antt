@@ -1,4 +1,4 @@
-use Rattle.std.proofs.Common.{◌≤◌, ap, arith, length, length-take}
+use Rattle.std.proofs.Common.{ap, arith, length, length-take}
 use Rattle.ws_http.proofs.chunk.trailer.Goals as goal
 
 pub returns-in-Whole-clause-within : goal.returns-in-Whole-clause-within

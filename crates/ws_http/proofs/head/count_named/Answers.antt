@@ -1,4 +1,4 @@
-use Rattle.std.proofs.Common.{◌≡◌, ◌<◌, true, false, sym, ◌∙◌, arith}
+use Rattle.std.proofs.Common.{true, false, sym, ◌∙◌, arith}
 use Rattle.ws_http.proofs.FieldLemmas.{one_more}
 use Rattle.ws_http.proofs.head.count_named.Goals as goal
 use Rattle.ws_http.proofs.head.count_named.Goals.{then-is_called, else-is_called}

@@ -1,4 +1,4 @@
-use Rattle.std.proofs.Common.{◌≡◌, ◌≤◌, sym, arith, length-take-le}
+use Rattle.std.proofs.Common.{sym, arith, length-take-le}
 use Rattle.std.proofs.lemmas.List.{take_all}
 use Rattle.ws_http.proofs.head.front_of.Goals as goal
 

@@ -1,4 +1,4 @@
-use Rattle.std.proofs.Common.{◌<◌, ◌≤◌, arith}
+use Rattle.std.proofs.Common.{◌<◌, arith}
 use Rattle.std.proofs.lemmas.Bool.Decides.{nat_tests}
 use Rattle.ws_http.proofs.FieldLemmas.{digit_more, below_top}
 use Rattle.ws_http.proofs.head.length_of.Goals as goal

@@ -1,4 +1,4 @@
-use Rattle.std.proofs.Common.{◌≡◌, ◌<◌, ◌≤◌, refl, arith, rules}
+use Rattle.std.proofs.Common.{arith, rules}
 use Rattle.ws_http.proofs.HeadLemmas.{request_fits}
 use Rattle.ws_http.proofs.head.parse.Goals as goal
 

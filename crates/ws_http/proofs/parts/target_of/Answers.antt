@@ -1,4 +1,4 @@
-use Rattle.std.proofs.Common.{◌≡◌, ℕ, List, sym, ap, ◌∙◌}
+use Rattle.std.proofs.Common.{◌∙◌}
 use Rattle.ws_http.proofs.PartLemmas.{never_reads, same_head}
 use Rattle.ws_http.proofs.parts.target_of.Goals as goal
 
@@ -9,5 +9,5 @@ returns-in-Never c h rest reads =
 pub returns-in-Head : goal.returns-in-Head
 returns-in-Head c h rest reads =
     let at = same_head c.args.raw.now c.front_of-front.result.now c.parse.new.headers c.in-Head.spans c.front_of-front.ensures.value
-        c.in-Head.ensures.sees.1 h rest reads in
+    c.in-Head.ensures.sees.1 h rest reads in
     c.of.ensures ∙ at.path

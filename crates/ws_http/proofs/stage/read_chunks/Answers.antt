@@ -1,4 +1,4 @@
-use Rattle.std.proofs.Common.{◌≡◌, ◌+◌, ◌≤◌, List, ◌++◌, true, false, take, drop, sym, ap, ◌∙◌, subst, arith, ℕ}
+use Rattle.std.proofs.Common.{◌+◌, List, ◌++◌, true, false, take, drop, sym, ap, ◌∙◌, subst, arith, ℕ}
 use Rattle.ws_http.specs.RequestStages.{HasChunks}
 use Rattle.ws_http.proofs.StageLemmas.{stands_open, stands_wrong, stands_last, chunks_go_on}
 use Rattle.ws_http.proofs.stage.read_chunks.Goals as goal
@@ -27,10 +27,10 @@ pub chunks-preserved : goal.chunks-preserved
 chunks-preserved c =
     let raw = c.args.raw.now in
     let content = c.split_at-in-Chunk-2.ensures.front
-        ∙ ap (λ (t : List ℕ). take c.in-Chunk.size t) (c.split_at-in-Chunk.ensures.back ∙ ap (λ (t : List ℕ). drop c.in-Chunk.line t) c.split_at.ensures.back) in
+    ∙ ap (λ (t : List ℕ). take c.in-Chunk.size t) (c.split_at-in-Chunk.ensures.back ∙ ap (λ (t : List ℕ). drop c.in-Chunk.line t) c.split_at.ensures.back) in
     let kept = c.keep.ensures.items ∙ ap (λ (t : List ℕ). c.chunks.body.items ++ t) content in
     let more = chunks_go_on c.args.head c.chunks.at c.in-Chunk.line c.in-Chunk.size raw c.chunks.body.items c.chunks.invariant.read
-        (rw c.split_at.ensures.back at c.in-Chunk.ensures.follows) in
+    (rw c.split_at.ensures.back at c.in-Chunk.ensures.follows) in
     record {
       read = subst (λ (t : List ℕ). HasChunks raw t c.args.head (c.chunks.at + (c.in-Chunk.line + c.in-Chunk.size + 2))) (sym kept) more;
       fits = omega (arith, c.chunks.invariant.fits, c.keep.ensures.capacity);

@@ -1,4 +1,4 @@
-use Rattle.std.proofs.Common.{◌≡◌, ◌≤◌, ◌<◌, arith}
+use Rattle.std.proofs.Common.{arith}
 use Rattle.ws_http.specs.declared.head.Framing.TheVariants as framing
 use Rattle.ws_http.proofs.StageLemmas.{fixed_whole, fixed_open}
 use Rattle.ws_http.proofs.stage.read_fixed.Goals as goal

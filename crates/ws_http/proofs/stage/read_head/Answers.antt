@@ -1,8 +1,7 @@
-use Rattle.std.proofs.Common.{◌≡◌, ◌≤◌, ◌<◌, ◌+◌, true, false, ap, sym, ◌∙◌, refl, arith, length, length-take, subst, List, ℕ}
+use Rattle.std.proofs.Common.{true, false, ap, sym, ◌∙◌, refl, arith, length, length-take, subst, List, ℕ}
 use Rattle.ws_http.specs.Heads.{Judges}
 use Rattle.ws_http.specs.RequestStages.{HasHead}
 use Rattle.ws_http.specs.declared.head.Framing.{Framing}
-use Rattle.ws_http.specs.declared.head.Framing.TheVariants as framing
 use Rattle.ws_http.specs.declared.head.Judged.TheVariants as judged
 use Rattle.ws_http.specs.Requests.{bad}
 use Rattle.ws_http.proofs.StageLemmas.{chunks_begin, head_open, by_front, fixed_long}
@@ -18,7 +17,7 @@ pub returns-then-length-room-clause-stands : goal.returns-then-length-room-claus
 returns-then-length-room-clause-stands c bytes e t =
     let x = c.in-Head-default-Fixed in
     let h = subst (λ (f : Framing). HasHead c.args.raw.now x.head f) x.field-1-is
-        (subst (λ (b : List ℕ). Judges b (judged.Head x.head x.field-1)) c.front_of.ensures.value x.ensures) in
+    (subst (λ (b : List ℕ). Judges b (judged.Head x.head x.field-1)) c.front_of.ensures.value x.ensures) in
     fixed_long c.args.room c.in-Head-default-Fixed.head c.in-Head-default-Fixed.length 0 c.args.raw.now c.requires.least h bytes e (omega arith)
 
 pub returns-then-passes_head-clause-stands : goal.returns-then-passes_head-clause-stands

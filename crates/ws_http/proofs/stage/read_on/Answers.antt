@@ -1,4 +1,3 @@
-use Rattle.std.proofs.Common.{◌≡◌}
 use Rattle.ws_http.proofs.stage.read_on.Goals as goal
 
 pub returns-in-Fixed-clause-stands : goal.returns-in-Fixed-clause-stands

@@ -77,8 +77,11 @@ section_more : (x z : List ℕ) (k : ℕ) → SectionIs x (section.Whole k) → 
 section_more x z k s = (
   s.0,
   s.1,
-  (s.2.0, ap (λ (t : List ℕ). t ++ z) s.2.1 ∙ append_assoc (print_section s.0 s.1) (drop k x) z
-      ∙ ap (λ (t : List ℕ). print_section s.0 s.1 ++ t) (sym (drop-append-le k x z s.4))),
+  (
+    s.2.0,
+    ap (λ (t : List ℕ). t ++ z) s.2.1 ∙ append_assoc (print_section s.0 s.1) (drop k x) z
+        ∙ ap (λ (t : List ℕ). print_section s.0 s.1 ++ t) (sym (drop-append-le k x z s.4)),
+  ),
   s.3,
   omega (arith, s.4, length-append x z),
 )
@@ -92,13 +95,15 @@ trailer_by : (after z : List ℕ) (len : ℕ) (n : Next) (s : Section) → IsLas
 trailer_by after z len n section.Open last is e =
     let past : nat_lt 16384 (length after) ≡ true = open_by (nat_lt 16384 (length after)) n e last in
     let long : 16384 ≤ length after = grind (arith, nat_tests, past) in
-    let more : nat_lt 16384 (length (after ++ z)) ≡ true = grind (arith, nat_tests, past, length-append after z) in
-    (section.Open, subst (λ (t : List ℕ). SectionIs t section.Open) (sym (take-append-le 16384 after z long)) is,
-        e ∙ ap (λ (b : Bool). cond b next.Wrong next.Open) (past ∙ sym more))
+    let more : nat_lt 16384 (length (after ++ z)) ≡ true = grind (arith, nat_tests, past, length-append after z) in (
+      section.Open,
+      subst (λ (t : List ℕ). SectionIs t section.Open) (sym (take-append-le 16384 after z long)) is,
+      e ∙ ap (λ (b : Bool). cond b next.Wrong next.Open) (past ∙ sym more),
+    )
 trailer_by after z len n section.Never last is e =
     let y = front_more 16384 after z in
     let never : NeverHasSection (take 16384 after ++ y.0) =
-        λ m f t rest reads. is (y.0 ++ m) f t rest (subst (λ (x : List ℕ). ReadsSection x f t rest) (append_assoc (take 16384 after) y.0 m) reads) in
+    λ m f t rest reads. is (y.0 ++ m) f t rest (subst (λ (x : List ℕ). ReadsSection x f t rest) (append_assoc (take 16384 after) y.0 m) reads) in
     (section.Never, subst (λ (t : List ℕ). SectionIs t section.Never) (sym y.1) never, e)
 trailer_by after z len n (section.Whole k) last is e =
     let y = front_more 16384 after z in
@@ -107,8 +112,11 @@ trailer_by after z len n (section.Whole k) last is e =
 line_more : (x z : List ℕ) (len size : ℕ) → LineIs x (line.Whole len size) → LineIs (x ++ z) (line.Whole len size)
 line_more x z len size l = (
   l.0,
-  (l.1.0, ap (λ (t : List ℕ). t ++ z) l.1.1 ∙ append_assoc (print_chunk_line l.0) (drop len x) z
-      ∙ ap (λ (t : List ℕ). print_chunk_line l.0 ++ t) (sym (drop-append-le len x z l.4))),
+  (
+    l.1.0,
+    ap (λ (t : List ℕ). t ++ z) l.1.1 ∙ append_assoc (print_chunk_line l.0) (drop len x) z
+        ∙ ap (λ (t : List ℕ). print_chunk_line l.0 ++ t) (sym (drop-append-le len x z l.4)),
+  ),
   l.2,
   l.3,
   omega (arith, l.4, length-append x z),
@@ -146,8 +154,8 @@ fixed_stays room head n bytes more v false true x y inside final e =
     let came : head + n ≤ length bytes = grind (arith, nat_tests, y) in
     let still : nat_le (head + n) (length (bytes ++ more)) ≡ true = grind (arith, nat_tests, came, length-append bytes more) in
     let content : take n (drop head (bytes ++ more)) ≡ take n (drop head bytes) =
-        ap (λ (t : List ℕ). take n t) (drop-append-le head bytes more inside)
-        ∙ take-append-le n (drop head bytes) more (omega (arith, length-drop head bytes)) in
+    ap (λ (t : List ℕ). take n t) (drop-append-le head bytes more inside)
+    ∙ take-append-le n (drop head bytes) more (omega (arith, length-drop head bytes)) in
     e ∙ fixed_by room head n bytes false true x y ∙ ap (λ (t : List ℕ). whole (head + n) t) (sym content)
     ∙ sym (fixed_by room head n (bytes ++ more) false true x still)
 fixed_stays room head n bytes more v false false x y inside final e =

@@ -4,3 +4,5 @@ pub mod ChunkLemmas
 pub mod StageLemmas
 pub mod ReaderLemmas
 pub mod PartLemmas
+pub mod StayLemmas
+pub mod PieceLemmas

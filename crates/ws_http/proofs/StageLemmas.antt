@@ -126,7 +126,7 @@ content_same room head n raw bytes e fits =
     ∙ ap (λ (t : List ℕ). take n t) (drop-take head (room - head) bytes)
     ∙ take-take n (room - head) (drop head bytes) (omega arith)
 
-fixed_by : (room head n : ℕ) (bytes : List ℕ) (a b : Bool) → nat_lt room (head + n) ≡ a → nat_le (head + n) (length bytes) ≡ b
+pub fixed_by : (room head n : ℕ) (bytes : List ℕ) (a b : Bool) → nat_lt room (head + n) ≡ a → nat_le (head + n) (length bytes) ≡ b
     → fixed_verdict room head n bytes ≡ cond a (bad why.TooLong false) (cond b (whole (head + n) (take n (drop head bytes))) headed)
 fixed_by room head n bytes a b x y =
     λ i. cond (x i) (bad why.TooLong false) (cond (y i) (whole (head + n) (take n (drop head bytes))) headed)

@@ -4,3 +4,4 @@ pub mod Heads
 pub mod Chunks
 pub mod Requests
 pub mod RequestStages
+pub mod Pieces

@@ -4,6 +4,7 @@
 mod chunk;
 mod fed;
 mod head;
+pub mod laws;
 mod parts;
 mod request;
 mod stage;

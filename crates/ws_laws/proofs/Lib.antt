@@ -14,3 +14,4 @@ pub mod Follow
 pub mod Apart
 pub mod Paired
 pub mod DueWork
+pub mod Examples

@@ -19,7 +19,7 @@ use Rattle.ws_model.specs.Answer.Answer.{Events, Full}
 use Rattle.ws_model.specs.declared.account.Account.{Account}
 use Rattle.ws_model.specs.declared.work.Work.{Work}
 use Rattle.ws_model.specs.declared.work.Work.TheVariants.{Verify, Notice, Fetch, Push}
-use Rattle.ws_model.specs.declared.work.Reply.{Reply as ReplyFields}
+use Rattle.ws_model.specs.declared.reply.Reply.{Reply as ReplyFields}
 use Rattle.ws_model.specs.declared.work.Outcome.{Outcome}
 use Rattle.ws_model.specs.declared.work.Outcome.TheVariants.{Reply, Lost, Late}
 use Rattle.ws_model.specs.declared.answers.Settled.{Settled}

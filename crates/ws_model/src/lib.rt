@@ -6,6 +6,7 @@ mod bytes;
 mod event;
 mod fate;
 mod lease;
+mod settings;
 mod work;
 
 pub use account::Account;
@@ -13,4 +14,5 @@ pub use bytes::{Bytes, Key, Keys, NoMemory, Pair};
 pub use event::{Alg, Event, Events, How, Intent, Mode, Tally, Version, What};
 pub use fate::{Cause, Fate};
 pub use lease::Lease;
+pub use settings::{Policy, Settings};
 pub use work::{Outcome, Reply, Work};

@@ -32,39 +32,47 @@ fn about(rt: &impl Print, words: &[String]) -> io::Result<bool> {
     Ok(true)
 }
 
-fn arguments(rt: &HostRuntime) -> io::Result<Vec<String>> {
+// The words behind the program's name.
+fn arguments(rt: &HostRuntime) -> Result<Vec<String>, Status> {
+    let Ok(all) = env::args(rt) else {
+        return Err(Status::Words { place: 1 });
+    };
     let mut words = Vec::new(rt.alloc());
-    for word in env::args(rt)?.skip(1) {
-        words.push(word)?;
+    for word in all.skip(1) {
+        if words.push(word).is_err() {
+            return Err(Status::NoMemory);
+        }
     }
     Ok(words)
 }
 
-fn tell(rt: &impl Eprint, status: &Status) -> io::Result<()> {
-    match status {
-        Status::Ok => Ok(()),
-        _ => eprintln!(rt; "{status}"),
+// Runs the command over standard input and output.
+fn run_on_streams(rt: &HostRuntime, words: &[String]) -> Status {
+    let Ok(reader) = BufReader::new(rt.alloc(), rt.reader()) else {
+        return Status::NoMemory;
+    };
+    let mut source = ReaderSource::new(reader);
+    let mut sink = WriterSink::new(io::writer(rt));
+    command::run(rt.alloc(), words, &mut source, &mut sink)
+}
+
+fn status_of(rt: &HostRuntime) -> Status {
+    let words = match arguments(rt) {
+        Ok(words) => words,
+        Err(status) => return status,
+    };
+    match about(rt, &words) {
+        Ok(true) => Status::Ok,
+        Ok(false) => run_on_streams(rt, &words),
+        Err(_) => Status::WriteFailed,
     }
 }
 
-fn main(rt: HostRuntime) -> io::Result<ExitCode> {
-    let alloc = rt.alloc();
-    let Ok(words) = arguments(&rt) else {
-        let status = Status::Words { place: 1 };
-        tell(&rt, &status)?;
-        return Ok(ExitCode::from(status.code()));
-    };
-    match about(&rt, &words) {
-        Ok(true) => return Ok(ExitCode::from(Status::Ok.code())),
-        Ok(false) => {}
-        Err(_) => {
-            tell(&rt, &Status::WriteFailed)?;
-            return Ok(ExitCode::from(Status::WriteFailed.code()));
-        }
+fn main(rt: HostRuntime) -> ExitCode {
+    let status = status_of(&rt);
+    if status != Status::Ok {
+        // Where standard error fails too, the exit status still tells.
+        let _ = eprintln!(rt; "{status}");
     }
-    let mut source = ReaderSource::new(BufReader::new(alloc, rt.reader())?);
-    let mut sink = WriterSink::new(io::writer(&rt));
-    let status = command::run(alloc, &words, &mut source, &mut sink);
-    tell(&rt, &status)?;
-    Ok(ExitCode::from(status.code()))
+    ExitCode::from(status.code())
 }

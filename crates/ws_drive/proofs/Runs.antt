@@ -3,15 +3,18 @@ use Rattle.std.proofs.Common.{◌≡◌, ℕ, suc, ◌+◌, ◌^◌, ◌<◌, �
 use Rattle.std.specs.List.{AllByRecursion}
 use Rattle.std.specs.Io.KnownBytes.{Consumes, Appends}
 use Rattle.std.proofs.lemmas.List.{append-nil, map-append}
+use Rattle.ws_model.specs.declared.event.Event.{Event}
+use Rattle.ws_model.specs.declared.event.Intent.{Intent}
+use Rattle.ws_model.specs.declared.settings.Settings.{Settings}
 use Rattle.ws_link.specs.declared.status.Status.TheVariants as status
-use Rattle.ws_form.specs.declared.Ask.{Ask}
-use Rattle.ws_form.specs.declared.AskFault.{AskFault}
-use Rattle.ws_form.specs.Form.{ask_in}
+use Rattle.ws_model.specs.Moment.{intent_number}
+use Rattle.ws_form.specs.declared.ask.Ask.{Ask}
+use Rattle.ws_form.specs.declared.fault.AskFault.{AskFault}
 use Rattle.ws_drive.specs.declared.script.Happening.{Happening}
 use Rattle.ws_drive.specs.declared.script.Happening.TheVariants as happens
 use Rattle.ws_drive.specs.Script.{IsHappening, text, texts, NoneBegins, is_end, most_happenings}
 use Rattle.ws_drive.specs.Moves.{AppendsSome, ConsumesSome, IsPrefix}
-use Rattle.ws_drive.specs.World.{World, Choice, start, output, after, after_ask, after_form, after_all, transcript}
+use Rattle.ws_drive.specs.World.{World, Choice, start, now, output, with_intent, intent_for, ask_at, after, after_ask, after_form, after_all, transcript}
 use Rattle.ws_drive.specs.Steps.{ReadsPlayable}
 use Rattle.ws_drive.specs.Runs.{Played, happenings_of, IsPlayed, Runs}
 use Rattle.ws_drive.proofs.Known.{Consumes-then, Appends-then, Consumes-none, Appends-none}
@@ -43,7 +46,7 @@ all_push P [] p all here = (here, tt)
 all_push P (q ∷ qs) p all here = (all.0, all_push P qs p all.1 here)
 
 -- i happenings were played: their texts were read and their transcript was written
-pub record SoFar (left left' written written' : Option (List ℕ)) (i : ℕ) (w : World) : Type 0 where
+pub record SoFar (settings : Settings) (left left' written written' : Option (List ℕ)) (i : ℕ) (w : World) : Type 0 where
   pub taken : List ℕ
   pub out : List ℕ
   pub played : Played
@@ -52,11 +55,11 @@ pub record SoFar (left left' written written' : Option (List ℕ)) (i : ℕ) (w 
   pub count : length played ≡ i
   pub sound : AllByRecursion (λ (p : Choice × Happening). IsHappening p.1 × (is_end p.1 ≡ false)) played
   pub read : taken ≡ texts (happenings_of played)
-  pub wrote : out ≡ transcript start played
-  pub reached : w ≡ after_all start played
+  pub wrote : out ≡ transcript (start settings) played
+  pub reached : w ≡ after_all (start settings) played
 
-pub started : (left left' written written' : Option (List ℕ)) (w : World) → left' ≡ left → written' ≡ written → w ≡ start → SoFar left left' written written' 0 w
-started left left' written written' w p q e = record {
+pub started : (settings : Settings) (left left' written written' : Option (List ℕ)) (w : World) → left' ≡ left → written' ≡ written → w ≡ start settings → SoFar settings left left' written written' 0 w
+started settings left left' written written' w p q e = record {
   taken = [];
   out = [];
   played = [];
@@ -69,8 +72,8 @@ started left left' written written' w p q e = record {
   reached = e;
 }
 
-pub goes_on : (left left' left'' written written' written'' : Option (List ℕ)) (i : ℕ) (w w' : World) (h : Happening) (choice : Choice) → SoFar left left' written written' i w → ReadsPlayable left' left'' h → Appends written' written'' (output w choice h) → w' ≡ after w choice h → SoFar left left'' written written'' (i + 1) w'
-goes_on left left' left'' written written' written'' i w w' h choice s reads writes e = record {
+pub goes_on : (settings : Settings) (left left' left'' written written' written'' : Option (List ℕ)) (i : ℕ) (w w' : World) (h : Happening) (choice : Choice) → SoFar settings left left' written written' i w → ReadsPlayable left' left'' h → Appends written' written'' (output w choice h) → w' ≡ after w choice h → SoFar settings left left'' written written'' (i + 1) w'
+goes_on settings left left' left'' written written' written'' i w w' h choice s reads writes e = record {
   taken = s.taken ++ text h;
   out = s.out ++ output w choice h;
   played = s.played ++ (choice, h) ∷ [];
@@ -79,24 +82,24 @@ goes_on left left' left'' written written' written'' i w w' h choice s reads wri
   count = omega (arith, s.count, length-append s.played ((choice, h) ∷ []));
   sound = all_push _ s.played (choice, h) s.sound (reads.1, reads.2);
   read = ap (λ t. t ++ text h) s.read ∙ sym (texts_push s.played choice h);
-  wrote = ap (λ t. t ++ output w choice h) s.wrote ∙ ap (λ v. transcript start s.played ++ output v choice h) s.reached ∙ sym (transcript_push start s.played choice h);
-  reached = e ∙ ap (λ v. after v choice h) s.reached ∙ sym (after_all_push start s.played choice h);
+  wrote = ap (λ t. t ++ output w choice h) s.wrote ∙ ap (λ v. transcript (start settings) s.played ++ output v choice h) s.reached ∙ sym (transcript_push (start settings) s.played choice h);
+  reached = e ∙ ap (λ v. after v choice h) s.reached ∙ sym (after_all_push (start settings) s.played choice h);
 }
 
-was_played : (left left' written written' : Option (List ℕ)) (i : ℕ) (w : World) → i ≤ 2 ^ 40 → (s : SoFar left left' written written' i w) → IsPlayed s.played
-was_played left left' written written' i w few s = record { sound = s.sound; few = omega (arith, s.count) }
+was_played : (settings : Settings) (left left' written written' : Option (List ℕ)) (i : ℕ) (w : World) → i ≤ 2 ^ 40 → (s : SoFar settings left left' written written' i w) → IsPlayed s.played
+was_played settings left left' written written' i w few s = record { sound = s.sound; few = omega (arith, s.count) }
 
 if_told : {P : List ℕ → Type 0} (o : Option (List ℕ)) → ((xs : List ℕ) → P xs) → IfSome o P
 if_told None f = tt
 if_told (Some xs) f = f xs
 
-pub ends : (left left' left'' written written' written'' : Option (List ℕ)) (i : ℕ) (w : World) → i < 2 ^ 40 → SoFar left left' written written' i w → Consumes left' left'' (text happens.End) → Appends written' written'' [] → Runs left left'' written written'' status.Ok
-ends left left' left'' written written' written'' i w few s read wrote = (
+pub ends : (settings : Settings) (left left' left'' written written' written'' : Option (List ℕ)) (i : ℕ) (w : World) → i < 2 ^ 40 → SoFar settings left left' written written' i w → Consumes left' left'' (text happens.End) → Appends written' written'' [] → Runs settings left left'' written written'' status.Ok
+ends settings left left' left'' written written' written'' i w few s read wrote = (
   s.taken ++ text happens.End,
   s.out ++ [],
   Consumes-then left left' left'' s.taken (text happens.End) s.consumed read,
   Appends-then written written' written'' s.out [] s.appended wrote,
-  if_told left (λ input. (s.played, was_played _ _ _ _ i w (omega arith) s, omega (arith, s.count), ap (λ t. t ++ text happens.End) s.read, append-nil s.out ∙ s.wrote)),
+  if_told left (λ input. (s.played, was_played _ _ _ _ _ i w (omega arith) s, omega (arith, s.count), ap (λ t. t ++ text happens.End) s.read, append-nil s.out ∙ s.wrote)),
 )
 
 left_at : (left left' : Option (List ℕ)) (taken : List ℕ) (P : List ℕ → Type 0) (Q : List ℕ → Type 0) → Consumes left left' taken → IfSome left' P → ((input rest : List ℕ) → input ≡ taken ++ rest → P rest → Q input) → IfSome left Q
@@ -104,46 +107,46 @@ left_at None left' taken P Q c p f = tt
 left_at (Some xs) None taken P Q c p f = absurd c
 left_at (Some xs) (Some ys) taken P Q c p f = f xs ys c p
 
-pub leaves : (left left' left'' written written' written'' : Option (List ℕ)) (i number : ℕ) (w : World) → i < 2 ^ 40 → number ≡ i + 1 → SoFar left left' written written' i w → ConsumesSome left' left'' (λ read. Unit {0}) → IfSome left' NoneBegins → Appends written' written'' [] → Runs left left'' written written'' (status.Script number)
-leaves left left' left'' written written' written'' i number w few is s read none wrote = (
+pub leaves : (settings : Settings) (left left' left'' written written' written'' : Option (List ℕ)) (i number : ℕ) (w : World) → i < 2 ^ 40 → number ≡ i + 1 → SoFar settings left left' written written' i w → ConsumesSome left' left'' (λ read. Unit {0}) → IfSome left' NoneBegins → Appends written' written'' [] → Runs settings left left'' written written'' (status.Script number)
+leaves settings left left' left'' written written' written'' i number w few is s read none wrote = (
   s.taken ++ read.0,
   s.out ++ [],
   Consumes-then left left' left'' s.taken read.0 s.consumed read.1,
   Appends-then written written' written'' s.out [] s.appended wrote,
   left_at left left' s.taken NoneBegins _ s.consumed none
-      (λ input rest e n. (s.played, was_played _ _ _ _ i w (omega arith) s, omega (arith, s.count), rest, e ∙ ap (λ t. t ++ rest) s.read, inl n, append-nil s.out ∙ s.wrote)),
+      (λ input rest e n. (s.played, was_played _ _ _ _ _ i w (omega arith) s, omega (arith, s.count), rest, e ∙ ap (λ t. t ++ rest) s.read, inl n, append-nil s.out ∙ s.wrote)),
 )
 
-pub leaves_long : (left left' written written' : Option (List ℕ)) (i number : ℕ) (w : World) → i ≡ 2 ^ 40 → number ≡ i + 1 → SoFar left left' written written' i w → Runs left left' written written' (status.Script number)
-leaves_long left left' written written' i number w all is s = (
+pub leaves_long : (settings : Settings) (left left' written written' : Option (List ℕ)) (i number : ℕ) (w : World) → i ≡ 2 ^ 40 → number ≡ i + 1 → SoFar settings left left' written written' i w → Runs settings left left' written written' (status.Script number)
+leaves_long settings left left' written written' i number w all is s = (
   s.taken,
   s.out,
   s.consumed,
   s.appended,
   left_at left left' s.taken (λ rest. Unit {0}) _ s.consumed (if_told left' (λ rest. tt))
-      (λ input rest e n. (s.played, was_played _ _ _ _ i w (omega arith) s, omega (arith, s.count), rest, e ∙ ap (λ t. t ++ rest) s.read, inr (s.count ∙ all), s.wrote)),
+      (λ input rest e n. (s.played, was_played _ _ _ _ _ i w (omega arith) s, omega (arith, s.count), rest, e ∙ ap (λ t. t ++ rest) s.read, inr (s.count ∙ all), s.wrote)),
 )
 
-pub read_fails : (left left' left'' written written' written'' : Option (List ℕ)) (i : ℕ) (w : World) → i < 2 ^ 40 → SoFar left left' written written' i w → ConsumesSome left' left'' NoneBegins → Appends written' written'' [] → Runs left left'' written written'' status.ReadFailed
-read_fails left left' left'' written written' written'' i w few s read wrote = (
+pub read_fails : (settings : Settings) (left left' left'' written written' written'' : Option (List ℕ)) (i : ℕ) (w : World) → i < 2 ^ 40 → SoFar settings left left' written written' i w → ConsumesSome left' left'' NoneBegins → Appends written' written'' [] → Runs settings left left'' written written'' status.ReadFailed
+read_fails settings left left' left'' written written' written'' i w few s read wrote = (
   s.taken ++ read.0,
   s.out ++ [],
   Consumes-then left left' left'' s.taken read.0 s.consumed read.1,
   Appends-then written written' written'' s.out [] s.appended wrote,
-  if_told left (λ input. (s.played, was_played _ _ _ _ i w (omega arith) s, read.0, ap (λ t. t ++ read.0) s.read, read.2, append-nil s.out ∙ s.wrote)),
+  if_told left (λ input. (s.played, was_played _ _ _ _ _ i w (omega arith) s, read.0, ap (λ t. t ++ read.0) s.read, read.2, append-nil s.out ∙ s.wrote)),
 )
 
-pub wants : (left left' left'' written written' written'' : Option (List ℕ)) (i : ℕ) (w : World) → i < 2 ^ 40 → SoFar left left' written written' i w → ConsumesSome left' left'' (λ read. Unit {0}) → Appends written' written'' [] → Runs left left'' written written'' status.NoMemory
-wants left left' left'' written written' written'' i w few s read wrote = (
+pub wants : (settings : Settings) (left left' left'' written written' written'' : Option (List ℕ)) (i : ℕ) (w : World) → i < 2 ^ 40 → SoFar settings left left' written written' i w → ConsumesSome left' left'' (λ read. Unit {0}) → Appends written' written'' [] → Runs settings left left'' written written'' status.NoMemory
+wants settings left left' left'' written written' written'' i w few s read wrote = (
   s.taken ++ read.0,
   s.out ++ [],
   Consumes-then left left' left'' s.taken read.0 s.consumed read.1,
   Appends-then written written' written'' s.out [] s.appended wrote,
-  if_told left (λ input. (s.played, was_played _ _ _ _ i w (omega arith) s, read.0, ap (λ t. t ++ read.0) s.read, append-nil s.out ∙ s.wrote)),
+  if_told left (λ input. (s.played, was_played _ _ _ _ _ i w (omega arith) s, read.0, ap (λ t. t ++ read.0) s.read, append-nil s.out ∙ s.wrote)),
 )
 
-pub write_fails : (left left' left'' written written' written'' : Option (List ℕ)) (i : ℕ) (w : World) (h : Happening) (choice : Choice) → i < 2 ^ 40 → SoFar left left' written written' i w → ReadsPlayable left' left'' h → AppendsSome written' written'' (output w choice h) → Runs left left'' written written'' status.WriteFailed
-write_fails left left' left'' written written' written'' i w h choice few s reads wrote = (
+pub write_fails : (settings : Settings) (left left' left'' written written' written'' : Option (List ℕ)) (i : ℕ) (w : World) (h : Happening) (choice : Choice) → i < 2 ^ 40 → SoFar settings left left' written written' i w → ReadsPlayable left' left'' h → AppendsSome written' written'' (output w choice h) → Runs settings left left'' written written'' status.WriteFailed
+write_fails settings left left' left'' written written' written'' i w h choice few s reads wrote = (
   s.taken ++ text h,
   s.out ++ wrote.0,
   Consumes-then left left' left'' s.taken (text h) s.consumed reads.0,
@@ -160,12 +163,16 @@ write_fails left left' left'' written written' written'' i w h choice few s read
   )),
 )
 
+intent_events : (t : ℕ) (h : List Event) (intent : Option Intent) → length (with_intent t h intent) ≤ length h + 1
+intent_events t h None = omega arith
+intent_events t h (Some intent) = omega arith
+
 after_ask_events : (w : World) (r : Result Ask AskFault) → length (after_ask w r).history ≤ length w.history + 1
-after_ask_events w (Ok ask) = omega arith
+after_ask_events w (Ok ask) = intent_events (now w) w.history (intent_for w.settings.policy.alg (intent_number w.history + 1) ask)
 after_ask_events w (Err fault) = omega arith
 
 after_form_events : (w : World) (choice : Choice) (body : List ℕ) → length (after_form w choice body).history ≤ length w.history + 1
-after_form_events w Choice.Made body = after_ask_events w (ask_in body)
+after_form_events w Choice.Made body = after_ask_events w (ask_at w body)
 after_form_events w Choice.Wanting body = omega arith
 
 -- a happening adds at most one event

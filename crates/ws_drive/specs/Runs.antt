@@ -5,6 +5,7 @@ use Rattle.std.specs.Io.KnownBytes.{Consumes, Appends}
 use Rattle.ws_model.specs.Cause.{Rose}
 use Rattle.ws_link.specs.declared.status.Status.{Status}
 use Rattle.ws_link.specs.declared.status.Status.TheVariants as status
+use Rattle.ws_model.specs.declared.settings.Settings.{Settings}
 use Rattle.ws_drive.specs.declared.script.Happening.{Happening}
 use Rattle.ws_drive.specs.declared.script.Happening.TheVariants as happens
 use Rattle.ws_drive.specs.Script.{IsHappening, text, texts, NoneBegins, is_end, most_happenings}
@@ -29,36 +30,36 @@ pub record IsPlayed (played : Played) : Type 0 where
 -- ReadFailed: all that was read whole was played, and its transcript was written.
 -- WriteFailed: the last happening that was read was played, and a part of its output was written.
 -- NoMemory: the transcript of what was played was written.
-abbrev pub IsRun : List ℕ → List ℕ → List ℕ → Status → Type 0
-IsRun input taken out status.Ok =
+abbrev pub IsRun : Settings → List ℕ → List ℕ → List ℕ → Status → Type 0
+IsRun settings input taken out status.Ok =
     (played : Played) × IsPlayed played × (length played < most_happenings)
     × (taken ≡ texts (happenings_of played) ++ text happens.End)
-    × (out ≡ transcript start played)
-IsRun input taken out (status.Script number) =
+    × (out ≡ transcript (start settings) played)
+IsRun settings input taken out (status.Script number) =
     (played : Played) × IsPlayed played × (number ≡ length played + 1)
     × (rest : List ℕ) × (input ≡ texts (happenings_of played) ++ rest)
     × (NoneBegins rest ⊎ (length played ≡ most_happenings))
-    × (out ≡ transcript start played)
-IsRun input taken out status.ReadFailed =
+    × (out ≡ transcript (start settings) played)
+IsRun settings input taken out status.ReadFailed =
     (played : Played) × IsPlayed played
     × (cut : List ℕ) × (taken ≡ texts (happenings_of played) ++ cut) × NoneBegins cut
-    × (out ≡ transcript start played)
-IsRun input taken out status.WriteFailed =
+    × (out ≡ transcript (start settings) played)
+IsRun settings input taken out status.WriteFailed =
     (played : Played) × (choice : Choice) × (last : Happening) × IsPlayed (played ++ (choice, last) ∷ [])
     × (taken ≡ texts (happenings_of played) ++ text last)
-    × (part : List ℕ) × IsPrefix part (output (after_all start played) choice last)
-    × (out ≡ transcript start played ++ part)
-IsRun input taken out status.NoMemory =
+    × (part : List ℕ) × IsPrefix part (output (after_all (start settings) played) choice last)
+    × (out ≡ transcript (start settings) played ++ part)
+IsRun settings input taken out status.NoMemory =
     (played : Played) × IsPlayed played
     × (cut : List ℕ) × (taken ≡ texts (happenings_of played) ++ cut)
-    × (out ≡ transcript start played)
-IsRun input taken out other = ⊥
+    × (out ≡ transcript (start settings) played)
+IsRun settings input taken out other = ⊥
 
--- what a run did to a source and a sink that tell
-abbrev pub Runs : Option (List ℕ) → Option (List ℕ) → Option (List ℕ) → Option (List ℕ) → Status → Type 0
-Runs left left' written written' s =
+-- what a run with these settings did to a source and a sink that tell
+abbrev pub Runs : Settings → Option (List ℕ) → Option (List ℕ) → Option (List ℕ) → Option (List ℕ) → Status → Type 0
+Runs settings left left' written written' s =
     (taken : List ℕ) × (out : List ℕ) × Consumes left left' taken × Appends written written' out
-    × IfSome left (λ input. IsRun input taken out s)
+    × IfSome left (λ input. IsRun settings input taken out s)
 
 -- counts don't fall, and a failure comes only where its count rose
 pub record StatusFor (reads reads' writes writes' : ℕ) (s : Status) : Type 0 where

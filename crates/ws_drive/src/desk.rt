@@ -1,16 +1,16 @@
 // The owner of the history.
-ghost use Rattle.std.specs.Prelude.{◌≡◌, ◌≤◌, ◌<◌, ◌^◌, ◌∷◌, [], true, length, OnOk, OnErr};
+ghost use Rattle.std.specs.Prelude.{◌≡◌, ◌+◌, ◌≤◌, ◌<◌, ◌^◌, [], true, length, IfSome, OnOk, OnErr};
 ghost use Rattle.std.specs.List.{list_all};
 ghost use Rattle.ws_model.specs.Account.{account};
 ghost use Rattle.ws_model.specs.Moment.{time, serial, intent_number};
 ghost use Rattle.ws_drive.specs.Desk.{history_of, is_ask};
 ghost use Rattle.ws_model.specs.Asks.{only_pending};
-ghost use Rattle.ws_drive.specs.World.{hub_time, asked, intent_for};
+ghost use Rattle.ws_drive.specs.World.{hub_time, asked, intent_for, with_intent};
 
 use crate::script::MAX_TIME;
 use std::alloc::Global;
 use ws_form::Ask;
-use ws_model::{Account, Alg, Event, Events, Intent, Mode, NoMemory, What};
+use ws_model::{Account, Alg, Bytes, Event, Events, Intent, Mode, NoMemory, What};
 
 /// A history of accepted asks, and the last hub time used, in seconds.
 #[derive(Drop)]
@@ -23,26 +23,43 @@ pub struct Desk {
     ghost asks: { list_all (λ e. is_ask e.what) (history_of events) ≡ true },
 }
 
-// The intent of an ask.
-fn intent_of(n: u64, ask: Ask) -> Intent
-    ensures { result ≡ intent_for n ask }
+// The intent of an ask, where it makes one. It takes no memory.
+fn intent_of(alloc: Global, alg: Alg, n: u64, ask: Ask) -> Option<Intent>
+    ensures intent { result ≡ intent_for alg n ask }
+    ensures number { IfSome result (λ intent. intent.n ≡ n) }
 {
-    let Ask::Subscribe {
-        topic,
-        echo,
-        callback,
-        secret,
-        granted,
-    } = ask;
-    Intent {
-        n,
-        mode: Mode::On,
-        topic,
-        echo,
-        callback,
-        secret,
-        granted,
-        alg: Alg::Sha256,
+    match ask {
+        Ask::Subscribe {
+            topic,
+            echo,
+            callback,
+            secret,
+            granted,
+        } => Some(Intent {
+            n,
+            mode: Mode::On,
+            topic,
+            echo,
+            callback,
+            secret,
+            granted,
+            alg,
+        }),
+        Ask::Unsubscribe {
+            topic,
+            echo,
+            callback,
+        } => Some(Intent {
+            n,
+            mode: Mode::Off,
+            topic,
+            echo,
+            callback,
+            secret: Bytes::from_vec(Vec::new(alloc)),
+            granted: 0,
+            alg,
+        }),
+        Ask::Publish { .. } => None,
     }
 }
 
@@ -85,24 +102,42 @@ impl Desk {
         now.min(MAX_TIME).max(self.used)
     }
 
-    /// Commits the event of an ask at the clock's value `now`. At an error nothing changes.
-    pub fn ask(&mut self, now: u64, ask: Ask) -> Result<(), NoMemory>
+    // Adds the event of an intent at a hub time. At an error nothing changes.
+    fn add(&mut self, t: u64, intent: Intent) -> Result<(), NoMemory>
+        requires room { length self.old.events < 2 ^ 63 }
+        requires later { self.old.used ≤ t }
+        requires number { intent.n ≡ length self.old.events + 1 }
+        ensures used { OnOk result (self.new.used ≡ t) }
+        ensures history { OnOk result (history_of self.new.events
+            ≡ with_intent t (history_of self.old.events) (Some intent)) }
+        ensures err { OnErr result (self.new ≡ self.old) }
+    {
+        self.events.push(Event {
+            serial: self.events.len() as u64 + 1,
+            t,
+            what: What::Asked(intent),
+        })?;
+        self.used = t;
+        Ok(())
+    }
+
+    /// Commits what an ask makes at the clock's value `now`. At an error nothing changes.
+    pub fn ask(&mut self, alloc: Global, alg: Alg, now: u64, ask: Ask) -> Result<(), NoMemory>
         requires { length self.old.events < 2 ^ 63 }
         ensures used { OnOk result (self.new.used ≡ hub_time now self.old.used (history_of self.old.events)) }
         ensures history { OnOk result (history_of self.new.events
-            ≡ asked (hub_time now self.old.used (history_of self.old.events)) (history_of self.old.events) ask ∷ history_of self.old.events) }
+            ≡ asked alg (hub_time now self.old.used (history_of self.old.events)) (history_of self.old.events) ask) }
         ensures err { OnErr result (self.new ≡ self.old) }
     {
         let t = self.hub_time(now);
         let number = self.events.len() as u64 + 1;
-        let what = What::Asked(intent_of(number, ask));
-        self.events.push(Event {
-            serial: number,
-            t,
-            what,
-        })?;
-        self.used = t;
-        Ok(())
+        match intent_of(alloc, alg, number, ask) {
+            Some(intent) => self.add(t, intent),
+            None => {
+                self.used = t;
+                Ok(())
+            }
+        }
     }
 
     /// The account at the clock's value `now`, which uses a hub time.

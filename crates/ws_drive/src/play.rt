@@ -11,7 +11,7 @@ use crate::session::Session;
 use crate::take::{ReadFault, take_happening};
 use std::alloc::Global;
 use ws_link::{Sink, Source, Status, WriteFailed};
-use ws_model::NoMemory;
+use ws_model::{NoMemory, Settings};
 
 /// How a step went: a happening was played, the script ended, or it leaves its grammar.
 #[derive(Clone, Copy, Debug, PartialEq, Eq)]
@@ -72,13 +72,14 @@ const MAX_HAPPENINGS: u64 = 1 << 40;
 // Reads one happening, lets it happen, and writes what it writes.
 fn step<S: Source, K: Sink>(
     alloc: Global,
+    settings: &Settings,
     session: &mut Session,
     source: &mut S,
     sink: &mut K,
 ) -> Result<Turn, Stop>
     requires { length session.old.desk.events < 2 ^ 63 }
     ensures steps { Steps (S.left source.old) (S.left source.new) (K.written sink.old) (K.written sink.new)
-        (world_of session.old) (world_of session.new) result }
+        (world_of settings.now session.old) (world_of settings.now session.new) result }
     ensures causes { StopsFor (S.faults source.old) (S.faults source.new) (K.faults sink.old) (K.faults sink.new) result }
 {
     let Some(happening) = take_happening(alloc, source)? else {
@@ -87,20 +88,25 @@ fn step<S: Source, K: Sink>(
     if let Happening::End = happening {
         return Ok(Turn::Ended);
     }
-    let text = session.play(alloc, &happening)?;
+    let text = session.play(alloc, settings, &happening)?;
     give_all(sink, text.as_bytes())?;
     Ok(Turn::Played)
 }
 
-/// Plays the script of the source from an empty history, and writes its transcript to the sink. The
+/// Plays the script of the source with these settings from an empty history, and writes its transcript to the sink. The
 /// output of a happening is written before the next one is read, and nothing is read behind `end`.
-pub fn drive<S: Source, K: Sink>(alloc: Global, source: &mut S, sink: &mut K) -> Status
-    ensures runs { Runs (S.left source.old) (S.left source.new) (K.written sink.old) (K.written sink.new) result }
+pub fn drive<S: Source, K: Sink>(
+    alloc: Global,
+    source: &mut S,
+    sink: &mut K,
+    settings: &Settings,
+) -> Status
+    ensures runs { Runs settings.now (S.left source.old) (S.left source.new) (K.written sink.old) (K.written sink.new) result }
     ensures causes { StatusFor (S.faults source.old) (S.faults source.new) (K.faults sink.old) (K.faults sink.new) result }
 {
     let mut session = Session::start(alloc);
     'steps: for i in 0..MAX_HAPPENINGS {
-        match step(alloc, &mut session, source, sink) {
+        match step(alloc, settings, &mut session, source, sink) {
             Ok(Turn::Played) => {}
             Ok(Turn::Ended) => return Status::Ok,
             Ok(Turn::Left) => return Status::Script { line: i + 1 },

@@ -8,6 +8,7 @@ mod event;
 mod fate;
 mod lease;
 mod reply;
+mod settings;
 mod work;
 
 pub use account::Account;
@@ -17,4 +18,5 @@ pub use event::{Alg, Event, Events, How, Intent, Mode, Tally, Version, What};
 pub use fate::{Cause, Fate};
 pub use lease::Lease;
 pub use reply::Reply;
+pub use settings::{Policy, Settings};
 pub use work::{Held, Outcome, Work, delay};

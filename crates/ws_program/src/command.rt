@@ -1,11 +1,12 @@
 // The top call.
-ghost use Rattle.std.specs.Prelude.{◌≡◌, map, string_bytes};
+ghost use Rattle.std.specs.Prelude.{◌≡◌, map, string_bytes, IfOk};
 ghost use Rattle.ws_drive.specs.Runs.{StatusFor};
-ghost use Rattle.ws_program.specs.Words.{Does, fault_place};
+ghost use Rattle.ws_program.specs.Words.{Does, default_settings, fault_place};
 
 use std::alloc::Global;
 use ws_drive::drive;
 use ws_link::{Sink, Source, Status};
+use ws_model::{Alg, Bytes, Keys, NoMemory, Policy, Settings};
 
 // The place of the first word at which no command line can go on.
 fn fault_place(words: &[String]) -> Option<u64>
@@ -17,6 +18,21 @@ fn fault_place(words: &[String]) -> Option<u64>
         [word, _, ..] if word.as_str() == "drive" => Some(2),
         _ => Some(1),
     }
+}
+
+// The settings of a hub: its own URL, no gateway, every topic allowed, and SHA-256.
+fn default_settings(alloc: Global) -> Result<Settings, NoMemory>
+    ensures { IfOk result (λ settings. settings ≡ default_settings) }
+{
+    Ok(Settings {
+        policy: Policy {
+            hub: Bytes::copy(alloc, b"http://127.0.0.1:8080/")?,
+            gateway: false,
+            allow: Keys::empty(alloc),
+            alg: Alg::Sha256,
+        },
+        gateway: None,
+    })
 }
 
 /// Does what the words say: `drive` plays the script of the source and writes its transcript to the
@@ -31,8 +47,11 @@ pub fn run<S: Source, K: Sink>(
         (K.written sink.old) (K.written sink.new) result }
     ensures causes { StatusFor (S.faults source.old) (S.faults source.new) (K.faults sink.old) (K.faults sink.new) result }
 {
-    match fault_place(words) {
-        Some(place) => Status::Words { place },
-        None => drive(alloc, source, sink),
+    if let Some(place) = fault_place(words) {
+        return Status::Words { place };
+    }
+    match default_settings(alloc) {
+        Ok(settings) => drive(alloc, source, sink, &settings),
+        Err(NoMemory) => Status::NoMemory,
     }
 }

@@ -1,4 +1,4 @@
-use Rattle.std.proofs.Common.{refl, sym, arith, subst, take, drop, List, ℕ}
+use Rattle.std.proofs.Common.{sym, arith, subst, take, drop}
 use Rattle.std.specs.Io.KnownBytes.{Appends}
 use Rattle.std.proofs.lemmas.List.{take-append-drop}
 use Rattle.std.proofs.lemmas.Grind.{common_steps}

@@ -1,4 +1,4 @@
-use Rattle.std.proofs.Common.{◌≡◌, ◌++◌, ◌≤◌, length, length-append, arith}
+use Rattle.std.proofs.Common.{◌++◌, length-append, arith}
 use Rattle.ws_drive.proofs.Known.{Consumes-then}
 use Rattle.ws_drive.proofs.Reading.{stopped_bytes}
 use Rattle.ws_drive.proofs.take.take_bytes.Goals as goal

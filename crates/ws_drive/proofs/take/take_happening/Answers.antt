@@ -1,7 +1,5 @@
-use Rattle.std.proofs.Common.{◌≡◌, ◌∙◌, sym, IfSome, Option}
 use Rattle.std.proofs.lemmas.Option.{IfSome_then}
 use Rattle.ws_drive.specs.Script.{IsHappening, text}
-use Rattle.ws_drive.specs.Moves.{NoneOf}
 use Rattle.ws_drive.specs.Reading.{with_line_feed}
 use Rattle.ws_drive.proofs.Reading.{stopped, whatever_follows}
 use Rattle.ws_drive.proofs.Happenings.{with_line, none_with_line, no_short_line}

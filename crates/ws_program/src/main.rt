@@ -2,15 +2,18 @@
 #![tactic(auto)]
 
 mod command;
+mod draft;
 #[cfg(test)]
 mod tests;
+mod values;
+mod words;
 
 use std::env;
 use std::io::{self, BufReader};
 use std::process::ExitCode;
 use ws_link::{ReaderSource, Status, WriterSink};
 
-const USAGE: &str = "usage: tubhollow drive < SCRIPT
+const USAGE: &str = "usage: tubhollow drive [SETTING].. < SCRIPT
        tubhollow --help | --version
 
 drive  plays the script on standard input and writes its transcript:
@@ -18,6 +21,13 @@ drive  plays the script on standard input and writes its transcript:
          form N    takes a form of the N bytes that follow, with a line feed behind them
          sum       writes the account
          end       ends the script
+
+settings, in any order, each at most once but for --allow:
+         --hub URL              the hub's own URL (http://127.0.0.1:8080/)
+         --gateway HOST:PORT    where requests go; with it URLs may have the scheme https
+         --alg sha1|sha256|sha384|sha512
+                                the hash by which pushes are signed (sha256)
+         --allow PREFIX         what keys of topics may begin with, up to 16 times (anything)
 ";
 
 const VERSION: &str = "tubhollow 0.1.0 (proved with rattle-kit-13b)";

@@ -113,6 +113,179 @@ fn the_first_examples(rt: HostRuntime) -> Result<(), Fail> {
     Ok(())
 }
 
+const HTTPS: &str =
+    "hub.mode=subscribe&hub.topic=http%3A%2F%2Fpub.example%2Fx&hub.callback=https%3A%2F%2Fsub.example%2Fcb";
+
+#[test]
+fn forms_with_and_without_settings(rt: HostRuntime) -> Result<(), Fail> {
+    let alloc = rt.alloc();
+    let https = format!(in alloc; "form 101\n{HTTPS}\nsum\nend\n")?;
+    let none = format!(in alloc;
+        "answer 400 hub.callback: scheme not served\npending 0\n{NO_OTHERS}"
+    )?;
+    let one = format!(in alloc; "answer 202 accepted\npending 1\n{NO_OTHERS}")?;
+    let lease = format!(in alloc; "form 120\n{BASE}&hub.lease_seconds=0\nend\n")?;
+    let off = format!(in alloc;
+        "form 124\nhub.mode=un{}&hub.lease_seconds=abc\nsum\nend\n",
+        BASE.strip_prefix("hub.mode=").unwrap_or("")
+    )?;
+    let publish = format!(in alloc;
+        "form 45\nhub.mode=publish&hub.url=http://pub.example/x\nsum\nend\n"
+    )?;
+    let published = format!(in alloc; "answer 202 accepted\npending 0\n{NO_OTHERS}")?;
+    let rows = [
+        // https-callback-needs-gateway
+        ("drive", https.as_str(), none.as_str()),
+        (
+            "drive --gateway 127.0.0.1:8080",
+            https.as_str(),
+            one.as_str(),
+        ),
+        (
+            "drive --allow http://pub.example/ --hub https://hub.example/ --alg sha512 --gateway g:1 --allow x",
+            https.as_str(),
+            one.as_str(),
+        ),
+        // lease-clamped-to-bounds
+        (
+            "drive",
+            lease.as_str(),
+            "answer 400 hub.lease_seconds bad\n",
+        ),
+        ("drive", off.as_str(), one.as_str()),
+        // form-faults-and-unleased-publish
+        ("drive", publish.as_str(), published.as_str()),
+        (
+            "drive",
+            "form 13\nhub.mode=ping\nform 16\nhub.mode=publish\nend\n",
+            "answer 400 hub.mode unknown\nanswer 400 hub.url missing\n",
+        ),
+    ];
+    for (line, script, wanted) in rows {
+        let (written, ended) = played(alloc, line, script, &[], (&[], &[]))?;
+        assert_eq!(rt; ended, Status::Ok, "the status of {line} with {script}");
+        assert_eq!(rt;
+            written.as_slice(),
+            wanted.as_bytes(),
+            "the output of {line} with {script}"
+        );
+    }
+    Ok(())
+}
+
+// Command lines and the place of their fault, 0 where they have none.
+const LINES: [(&str, u64); 41] = [
+    ("", 1),
+    ("now drive", 1),
+    ("driver", 1),
+    // drive-with-unknown-word
+    ("drive now", 2),
+    ("drive", 0),
+    // setting-without-value
+    ("drive --gateway 127.0.0.1", 3),
+    ("drive --hub", 3),
+    ("drive --allow", 3),
+    ("drive --alg sha1 --hub", 5),
+    ("drive --alg sha1 --alg", 4),
+    // unknown-algorithm-word
+    ("drive --alg md5", 3),
+    ("drive --alg SHA1", 3),
+    ("drive --alg sha1", 0),
+    ("drive --alg sha256", 0),
+    ("drive --alg sha384", 0),
+    ("drive --alg sha512", 0),
+    ("drive --alg sha1 --alg sha1", 4),
+    ("drive --alg sha1 drive", 4),
+    ("drive --hub http://hub.example/", 0),
+    ("drive --hub https://hub.example/", 0),
+    ("drive --hub hub.example", 3),
+    ("drive --hub ftp://hub.example/", 3),
+    ("drive --hub http://u@hub.example/", 3),
+    (
+        "drive --hub http://hub.example/ --hub http://hub.example/",
+        4,
+    ),
+    ("drive --gateway proxy:1", 0),
+    ("drive --gateway proxy:65535", 0),
+    ("drive --gateway proxy:65536", 3),
+    ("drive --gateway proxy:100000000000000000000", 3),
+    ("drive --gateway proxy:0", 3),
+    ("drive --gateway proxy:080", 3),
+    ("drive --gateway proxy:+80", 3),
+    ("drive --gateway proxy:", 3),
+    ("drive --gateway proxy", 3),
+    ("drive --gateway :80", 3),
+    ("drive --gateway [::1]:80", 3),
+    ("drive --gateway pro\u{1}xy:80", 3),
+    ("drive --gateway pro\u{7f}xy:80", 3),
+    ("drive --gateway prôxy:80", 0),
+    ("drive --gateway a:1 --gateway b:2", 4),
+    ("drive --allow x --gateway a:1 --allow x --now", 8),
+    ("drive --alg sha1 --allow x --gateway a:1 --hub now", 9),
+];
+
+#[test]
+fn setting_without_value(rt: HostRuntime) -> Result<(), Fail> {
+    let alloc = rt.alloc();
+    for (line, place) in LINES {
+        let (written, ended) = played(alloc, line, "end\n", &[], (&[], &[]))?;
+        let wanted = if place == 0 {
+            Status::Ok
+        } else {
+            Status::Words { place }
+        };
+        assert_eq!(rt; ended, wanted, "{line}");
+        assert_eq!(rt; written.len(), 0);
+    }
+    Ok(())
+}
+
+// A command line with a setting and a value of so many letters, and then so many more prefixes.
+fn line_of(
+    alloc: Global,
+    setting: &str,
+    letters: usize,
+    behind: &str,
+    more: usize,
+) -> Result<String, Fail> {
+    let mut line = format!(in alloc; "drive {setting} ")?;
+    for _ in 0..letters {
+        line.push('a')?;
+    }
+    line.push_str(behind)?;
+    for i in 0..more {
+        write!(line, " --allow {i}")?;
+    }
+    Ok(line)
+}
+
+#[test]
+fn bounds_of_settings(rt: HostRuntime) -> Result<(), Fail> {
+    let alloc = rt.alloc();
+    let rows = [
+        (line_of(alloc, "--gateway", 255, ":1", 16)?, Status::Ok),
+        (
+            line_of(alloc, "--gateway", 256, ":1", 16)?,
+            Status::Words { place: 3 },
+        ),
+        (line_of(alloc, "--allow", 2048, "", 15)?, Status::Ok),
+        (
+            line_of(alloc, "--allow", 2049, "", 15)?,
+            Status::Words { place: 3 },
+        ),
+        (
+            line_of(alloc, "--allow", 1, "", 16)?,
+            Status::Words { place: 34 },
+        ),
+        (line_of(alloc, "--alg sha1 --allow", 1, "", 15)?, Status::Ok),
+    ];
+    for (line, wanted) in &rows {
+        let (_, ended) = played(alloc, line.as_str(), "end\n", &[], (&[], &[]))?;
+        assert_eq!(rt; ended, *wanted, "{line}");
+    }
+    Ok(())
+}
+
 #[test]
 fn a_long_line_leaves_the_grammar(rt: HostRuntime) -> Result<(), Fail> {
     let alloc = rt.alloc();

@@ -2,6 +2,7 @@ pub mod Cause
 pub mod Account
 pub mod Answer
 pub mod Asks
+pub mod Decimal
 pub mod Due
 pub mod Equality
 pub mod Fate

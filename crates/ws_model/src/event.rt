@@ -1,5 +1,5 @@
 // The thirteen kinds of event, and lists of them.
-ghost use Rattle.std.specs.Prelude.{◌≡◌, [], ◌∷◌, ◌++◌, OnOk, OnErr, length, ◌==◌};
+ghost use Rattle.std.specs.Prelude.{◌≡◌, [], ◌∷◌, ◌++◌, IfOk, OnOk, OnErr, length, ◌==◌};
 
 use crate::{Bytes, Key, NoMemory};
 use std::alloc::Global;
@@ -44,6 +44,24 @@ pub struct Intent {
     pub alg: Alg,
 }
 
+impl Intent {
+    /// A copy of the intent.
+    pub fn copy(&self, alloc: Global) -> Result<Intent, NoMemory>
+        ensures { IfOk result (λ i. i ≡ self.now) }
+    {
+        Ok(Intent {
+            n: self.n,
+            mode: self.mode,
+            topic: Bytes::copy(alloc, self.topic.as_slice())?,
+            echo: Bytes::copy(alloc, self.echo.as_slice())?,
+            callback: Bytes::copy(alloc, self.callback.as_slice())?,
+            secret: Bytes::copy(alloc, self.secret.as_slice())?,
+            granted: self.granted,
+            alg: self.alg,
+        })
+    }
+}
+
 /// A fetched content of a topic, by its number `ver`.
 ///
 /// `upto` is the greatest serial of the history when the fetch began.
@@ -55,6 +73,22 @@ pub struct Version {
     pub media: Bytes,
     pub own_link: Bytes,
     pub body: Bytes,
+}
+
+impl Version {
+    /// A copy of the version.
+    pub fn copy(&self, alloc: Global) -> Result<Version, NoMemory>
+        ensures { IfOk result (λ v. v ≡ self.now) }
+    {
+        Ok(Version {
+            ver: self.ver,
+            topic: Bytes::copy(alloc, self.topic.as_slice())?,
+            upto: self.upto,
+            media: Bytes::copy(alloc, self.media.as_slice())?,
+            own_link: Bytes::copy(alloc, self.own_link.as_slice())?,
+            body: Bytes::copy(alloc, self.body.as_slice())?,
+        })
+    }
 }
 
 /// What a compaction puts first: its moment in seconds, the greatest serial and numbers used, and

@@ -4,6 +4,7 @@
 mod account;
 mod answers;
 mod bytes;
+mod decimal;
 mod event;
 mod fate;
 mod lease;
@@ -14,6 +15,7 @@ mod work;
 pub use account::Account;
 pub use answers::{Kind, Settled};
 pub use bytes::{Bytes, Key, Keys, NoMemory, Pair};
+pub use decimal::{are_digits, number_within};
 pub use event::{Alg, Event, Events, How, Intent, Mode, Tally, Version, What};
 pub use fate::{Cause, Fate};
 pub use lease::Lease;

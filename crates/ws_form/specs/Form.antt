@@ -1,9 +1,10 @@
 -- What a form asks for (WebSub, sections 5.1 and 7). The first pair of a name counts.
-use Rattle.std.specs.Prelude.{ℕ, ◌+◌, ◌*◌, ◌-◌, Bool, not, ◌&&◌, ◌||◌, ◌==◌, nat_lt, min, max, List, [], ◌∷◌, length, Option, Some, None, Result, Ok, Err, if◌then◌else◌, codes, bytes_eq}
-use Rattle.std.specs.List.{fold, list_all}
+use Rattle.std.specs.Prelude.{ℕ, Bool, not, ◌&&◌, ◌||◌, ◌==◌, nat_lt, min, max, List, [], ◌∷◌, length, Option, Some, None, Result, Ok, Err, if◌then◌else◌, codes, bytes_eq}
+use Rattle.std.specs.List.{list_all}
 use Rattle.std.specs.Char.{is_ascii_digit}
 use Rattle.std.specs.Str.Lossy.{utf8_lossy}
 use Rattle.form_urlencoded.specs.Form.{raw_pairs, decode}
+use Rattle.ws_model.specs.Decimal.{number_of}
 use Rattle.ws_target.specs.declared.fault.TargetFault.{TargetFault}
 use Rattle.ws_target.specs.declared.fault.TargetFault.TheVariants as target
 use Rattle.ws_target.specs.Keys.{key_or_fault}
@@ -107,10 +108,6 @@ shortest_lease = 60
 -- ASCII digits, not all of them 0
 abbrev pub is_lease : List ℕ → Bool
 is_lease text = list_all is_ascii_digit text && not (list_all (λ digit. digit == 48) text)
-
--- the number that decimal digits write
-abbrev pub number_of : List ℕ → ℕ
-number_of digits = fold (λ n digit. 10 * n + (digit - 48)) 0 digits
 
 -- the lease that is granted for these digits: their number, brought into the bounds
 unfoldable pub granted_for : List ℕ → ℕ

@@ -1,23 +1,17 @@
 // Leases.
 ghost use Rattle.std.specs.Prelude.{◌≡◌, ◌≤◌, ◌==◌, IfOk};
 ghost use Rattle.std.specs.List.{list_all};
-ghost use Rattle.std.specs.Char.{is_ascii_digit};
 ghost use Rattle.ws_form.specs.Answers.{Gives};
 ghost use Rattle.ws_form.specs.Form.{granted_for, lease_in};
 
 use crate::AskFault;
 use crate::fields::field;
 use std::alloc::Global;
+use ws_model::{are_digits, number_within};
 
 const LONGEST_LEASE: u32 = 864_000;
 
 const SHORTEST_LEASE: u32 = 60;
-
-fn is_digits(text: &[u8]) -> bool
-    ensures { result ≡ list_all is_ascii_digit text.now }
-{
-    text.iter().all(|byte| byte.is_ascii_digit())
-}
 
 fn is_zeros(text: &[u8]) -> bool
     ensures { result ≡ list_all (λ digit. digit == 48) text.now }
@@ -32,10 +26,7 @@ fn granted_for(digits: &[u8]) -> u32
     ensures least { 60 ≤ result }
     ensures most { result ≤ 864000 }
 {
-    let mut seconds = 0;
-    for digit in digits {
-        seconds = (10 * seconds + u32::from(digit.saturating_sub(b'0'))).min(LONGEST_LEASE);
-    }
+    let seconds = number_within(digits, u64::from(LONGEST_LEASE)) as u32;
     seconds.max(SHORTEST_LEASE)
 }
 
@@ -53,7 +44,7 @@ pub fn lease(alloc: Global, body: &[u8]) -> Result<u32, AskFault>
     if text.is_empty() {
         return Ok(LONGEST_LEASE);
     }
-    if !is_digits(text) || is_zeros(text) {
+    if !are_digits(text) || is_zeros(text) {
         return Err(AskFault::LeaseBad);
     }
     Ok(granted_for(text))

@@ -22,3 +22,6 @@ pub use lease::Lease;
 pub use reply::Reply;
 pub use settings::{Policy, Settings};
 pub use work::{Held, Outcome, Work, delay};
+
+#[cfg(test)]
+mod tests;

@@ -1,8 +1,9 @@
 -- The values of settings (own).
-use Rattle.std.specs.Prelude.{ℕ, ◌+◌, ◌*◌, ◌-◌, Bool, true, not, ◌&&◌, ◌==◌, nat_lt, nat_le, false, List, [], ◌∷◌, length, Option, Some, None, option_map, if◌then◌else◌, codes, bytes_eq}
-use Rattle.std.specs.List.{fold, list_all, before_first, after_first}
+use Rattle.std.specs.Prelude.{ℕ, Bool, true, not, ◌&&◌, ◌==◌, nat_lt, nat_le, false, List, [], ◌∷◌, length, Option, Some, None, option_map, if◌then◌else◌, codes, bytes_eq}
+use Rattle.std.specs.List.{list_all, before_first, after_first}
 use Rattle.std.specs.Char.{is_ascii_digit, is_ascii_control}
 use Rattle.std.specs.Result.{result_ok}
+use Rattle.ws_model.specs.Decimal.{number_of}
 use Rattle.ws_model.specs.declared.event.Alg.{Alg}
 use Rattle.ws_model.specs.declared.event.Alg.TheVariants.{Sha1, Sha256, Sha384, Sha512}
 use Rattle.ws_target.specs.Keys.{key_or_fault}
@@ -32,10 +33,6 @@ is_host host = nat_lt 0 (length host) && nat_le (length host) 255 && list_all is
 abbrev pub is_number : List ℕ → Bool
 is_number [] = false
 is_number (digit ∷ digits) = not (digit == 48) && list_all is_ascii_digit (digit ∷ digits)
-
--- the number that decimal digits write
-abbrev pub number_of : List ℕ → ℕ
-number_of digits = fold (λ n digit. 10 * n + (digit - 48)) 0 digits
 
 -- a port, from 1 to 65,535
 unfoldable pub port_of : List ℕ → Option ℕ

@@ -1,11 +1,10 @@
 // The values of settings.
-ghost use Rattle.std.specs.Prelude.{◌≡◌, min, IfOk};
+ghost use Rattle.std.specs.Prelude.{◌≡◌, IfOk};
 ghost use Rattle.std.specs.List.{list_all};
-ghost use Rattle.std.specs.Char.{is_ascii_digit};
-ghost use Rattle.ws_program.specs.Values.{hub_key, alg_of, is_host_byte, is_host, is_number, number_of, port_of, host_part, port_part, address_of, is_allowed_prefix};
+ghost use Rattle.ws_program.specs.Values.{hub_key, alg_of, is_host_byte, is_host, is_number, port_of, host_part, port_part, address_of, is_allowed_prefix};
 
 use std::alloc::Global;
-use ws_model::{Alg, Bytes, Key, NoMemory};
+use ws_model::{Alg, Bytes, Key, NoMemory, are_digits, number_within};
 use ws_target::{TargetFault, topic};
 
 // The longest host and the longest prefix, in bytes.
@@ -13,7 +12,7 @@ const MAX_HOST: usize = 255;
 
 const MAX_PREFIX: usize = 2_048;
 
-const MAX_PORT: u32 = 65_535;
+const MAX_PORT: u64 = 65_535;
 
 /// The key of a hub's URL, which may have the scheme https.
 #[tactic(auto, unfolding(crate::specs::Values::hub_key))]
@@ -62,12 +61,6 @@ fn is_host(host: &[u8]) -> bool
     !host.is_empty() && host.len() <= MAX_HOST && are_host_bytes(host)
 }
 
-fn are_digits(text: &[u8]) -> bool
-    ensures { result ≡ list_all is_ascii_digit text.now }
-{
-    text.iter().all(|byte| byte.is_ascii_digit())
-}
-
 fn is_number(text: &[u8]) -> bool
     ensures { result ≡ is_number text.now }
 {
@@ -77,22 +70,11 @@ fn is_number(text: &[u8]) -> bool
     *first != b'0' && are_digits(text)
 }
 
-// The number of the digits, or one past the last port where it is greater.
-fn number_of(digits: &[u8]) -> u32
-    ensures { result ≡ min (number_of digits.now) 65536 }
-{
-    let mut number = 0;
-    for digit in digits {
-        number = (10 * number + u32::from(digit.saturating_sub(b'0'))).min(MAX_PORT + 1);
-    }
-    number
-}
-
 #[tactic(auto, unfolding(crate::specs::Values::port_of))]
 fn port_of(text: &[u8]) -> Option<u16>
     ensures { result ≡ port_of text.now }
 {
-    let number = number_of(text);
+    let number = number_within(text, MAX_PORT + 1);
     if is_number(text) && number <= MAX_PORT {
         Some(number as u16)
     } else {

@@ -1,0 +1,3 @@
+pub mod Shrunk
+pub mod Replaced
+pub mod Choice

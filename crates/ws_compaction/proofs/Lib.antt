@@ -1,3 +1,5 @@
 pub mod Shrunk
 pub mod Replaced
 pub mod Choice
+pub mod Looks
+pub mod Requests

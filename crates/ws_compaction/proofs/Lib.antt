@@ -3,3 +3,4 @@ pub mod Replaced
 pub mod Choice
 pub mod Looks
 pub mod Requests
+pub mod Fetches

@@ -30,7 +30,7 @@ filter_swap p q r (x ∷ xs) a = one (q x) refl (r x) refl (filter_swap p q r xs
     one false e true d h = rw e h
     one false e false d h = h
 
-filter_none : {X : Type 0} (p : X → Bool) (xs : List X) → AllByRecursion (λ x. p x ≡ false) xs → filter p xs ≡ []
+pub filter_none : {X : Type 0} (p : X → Bool) (xs : List X) → AllByRecursion (λ x. p x ≡ false) xs → filter p xs ≡ []
 filter_none p [] a = refl
 filter_none p (x ∷ xs) a = rw a.0 (filter_none p xs a.1)
 
@@ -92,7 +92,7 @@ module _ (c : TallyFields) (passes : Event → Bool) (lease_in version_in : ℕ 
   no_end None t false c f = refl
   no_end None t true c f = rw (f refl refl)
 
-  first_end_kept : (g : List Event) → Legal g → AreRight g → (l : Lease) → (has (is_confirmed l.intent.n) g ≡ true → IsTold g l) → is_kept_lease l ≡ true → first_end (shrunk g) l ≡ first_end g l
+  pub first_end_kept : (g : List Event) → Legal g → AreRight g → (l : Lease) → (has (is_confirmed l.intent.n) g ≡ true → IsTold g l) → is_kept_lease l ≡ true → first_end (shrunk g) l ≡ first_end g l
   first_end_kept [] lg r l told k = refl
   first_end_kept (e ∷ g) lg r l told k = one (passes e) refl (first_end_kept g lg.0 r.0 l here k) (has_kept g r.0 l.intent.n k)
     where
@@ -103,7 +103,7 @@ module _ (c : TallyFields) (passes : Event → Bool) (lease_in version_in : ℕ 
       one true q h c = rw (h, c, r.1.finds q)
       one false q h c = h ∙ no_end (first_end g l) e.t (has (is_confirmed l.intent.n) g) (end_by e.what (confirmed_intent e.what g) l) (λ x y. r.1.ends q l (here x) k x y)
 
-  leases_kept : (g : List Event) → AreRight g → leases (shrunk g) ≡ filter is_kept_lease (leases g)
+  pub leases_kept : (g : List Event) → AreRight g → leases (shrunk g) ≡ filter is_kept_lease (leases g)
   leases_kept [] r = refl
   leases_kept (e ∷ g) r = one (passes e) refl (leases_kept g r.0) ∙ sym (filter-append is_kept_lease (lease_of e.what (confirmed_intent e.what g)) (leases g))
     where
@@ -111,7 +111,7 @@ module _ (c : TallyFields) (passes : Event → Bool) (lease_in version_in : ℕ 
       one true q h = rw (filter_all is_kept_lease _ (r.1.made q), r.1.finds q, h)
       one false q h = rw (filter_none is_kept_lease _ (r.1.unmade q)) h
 
-  live_kept : (g : List Event) → Legal g → AreRight g → (t : ℕ) → live (shrunk g) t ≡ filter is_kept_lease (live g t)
+  pub live_kept : (g : List Event) → Legal g → AreRight g → (t : ℕ) → live (shrunk g) t ≡ filter is_kept_lease (live g t)
   live_kept g lg r t =
       ap (filter (λ l. is_none (lease_end (shrunk g) l t))) (leases_kept g r)
       ∙ filter_swap (λ l. is_none (lease_end (shrunk g) l t)) is_kept_lease (λ l. is_none (lease_end g l t)) (leases g)
@@ -144,7 +144,7 @@ module _ (c : TallyFields) (passes : Event → Bool) (lease_in version_in : ℕ 
         one true q h = ap (λ x. cond (is_push test v n e.what) e.t x) h
         one false q h = rw (r.1.pushed q test v n kv kn) h
 
-  fate_kept : (g : List Event) → Legal g → AreRight g → (p : Pair) (t : ℕ) → IsToldPair g p → is_held_pair p ≡ true → fate (shrunk g) p t ≡ fate g p t
+  pub fate_kept : (g : List Event) → Legal g → AreRight g → (p : Pair) (t : ℕ) → IsToldPair g p → is_held_pair p ≡ true → fate (shrunk g) p t ≡ fate g p t
   fate_kept g lg r p t told k =
       let w = and_parts (version_in p.version.ver) (lease_in p.lease.intent.n) k in
       rw (has_push is_done p.version.ver p.lease.intent.n w.0 w.1 g r, times_push is_miss p.version.ver p.lease.intent.n w.0 w.1 g r, last_push is_miss p.version.ver p.lease.intent.n w.0 w.1 g r, first_end_kept g lg r p.lease (λ _. told) w.1)
@@ -154,13 +154,13 @@ module _ (c : TallyFields) (passes : Event → Bool) (lease_in version_in : ℕ 
       let w = and_parts (version_in p.version.ver) (lease_in p.lease.intent.n) k in
       rw (times_push is_miss p.version.ver p.lease.intent.n w.0 w.1 g r, last_push is_miss p.version.ver p.lease.intent.n w.0 w.1 g r)
 
-  owed_of : (g : List Event) → Legal g → AreRight g → pairs (shrunk g) ≡ filter is_held_pair (pairs g) → (t : ℕ) → owed (shrunk g) t ≡ filter is_held_pair (owed g t)
+  pub owed_of : (g : List Event) → Legal g → AreRight g → pairs (shrunk g) ≡ filter is_held_pair (pairs g) → (t : ℕ) → owed (shrunk g) t ≡ filter is_held_pair (owed g t)
   owed_of g lg r h t =
       ap (filter (λ p. is_owed (fate (shrunk g) p t))) h
       ∙ filter_swap (λ p. is_owed (fate (shrunk g) p t)) is_held_pair (λ p. is_owed (fate g p t)) (pairs g)
       (all_weaker (IsToldPair g) _ (λ p told k. ap is_owed (fate_kept g lg r p t told k)) (pairs g) (pairs_told g lg))
 
-  pairs_kept : (g : List Event) → Legal g → AreRight g → pairs (shrunk g) ≡ filter is_held_pair (pairs g)
+  pub pairs_kept : (g : List Event) → Legal g → AreRight g → pairs (shrunk g) ≡ filter is_held_pair (pairs g)
   pairs_kept [] lg r = refl
   pairs_kept (e ∷ g) lg r = one (passes e) refl (pairs_kept g lg.0 r.0) ∙ sym (filter-append is_held_pair bs (pairs g))
     where

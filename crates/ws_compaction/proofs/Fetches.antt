@@ -41,7 +41,7 @@ none_left p q (x ∷ xs) k = one (p x) refl k (none_left p q xs)
     one false e k f = two (q x) e (f k)
 
 -- what passes a test is found in the filter
-found_in : {X : Type 0} (like : X → X → Bool) (q : X → Bool) → ((x : X) → like x x ≡ true) → (xs : List X) → AllByRecursion (λ x. q x ≡ true → list_any (λ y. like y x) (filter q xs) ≡ true) xs
+pub found_in : {X : Type 0} (like : X → X → Bool) (q : X → Bool) → ((x : X) → like x x ≡ true) → (xs : List X) → AllByRecursion (λ x. q x ≡ true → list_any (λ y. like y x) (filter q xs) ≡ true) xs
 found_in like q f [] = tt
 found_in like q f (x ∷ xs) = (
   λ k. rw k (or_left _ _ (f x)),
@@ -52,7 +52,7 @@ found_in like q f (x ∷ xs) = (
     more true y k = or_right (like x y) _ k
     more false y k = k
 
-any_more : {X : Type 0} (p q : X → Bool) → ((x : X) → p x ≡ true → q x ≡ true) → (xs : List X) → list_any p xs ≡ true → list_any q xs ≡ true
+pub any_more : {X : Type 0} (p q : X → Bool) → ((x : X) → p x ≡ true → q x ≡ true) → (xs : List X) → list_any p xs ≡ true → list_any q xs ≡ true
 any_more p q f [] k = absurd (false≢true k)
 any_more p q f (x ∷ xs) k = elim (or_cases (p x) (list_any p xs) k) [ inl a ↦ or_left _ _ (f x a) | inr a ↦ or_right (q x) _ (any_more p q f xs a) ]
 

@@ -4,3 +4,6 @@ pub mod Choice
 pub mod Looks
 pub mod Requests
 pub mod Fetches
+pub mod Totals
+pub mod Unrevoked
+pub mod Whole

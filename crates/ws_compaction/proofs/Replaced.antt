@@ -176,7 +176,7 @@ filter_members f q (x ∷ xs) = (
     more true n k = or_right (f x == n) _ k
     more false n k = k
 
-none_before : (o d : Option (ℕ × Cause)) → or_else o d ≡ None → o ≡ None
+pub none_before : (o d : Option (ℕ × Cause)) → or_else o d ≡ None → o ≡ None
 none_before None d k = refl
 none_before (Some a) d k = absurd (grind arith)
 
@@ -198,7 +198,7 @@ none_good (e ∷ g) l k = (
 )
 
 -- a Revoked is of a live lease
-revoked_of : (w : What) (t n : ℕ) (g : List Event) (G : Type 0) → Legal g → is_allowed w t g ≡ true → is_revoked n w ≡ true → ((x : Lease) → IsOfConfirmed g x → IsTold g x → is_none (lease_end g x t) ≡ true → x.intent.n ≡ n → G) → G
+pub revoked_of : (w : What) (t n : ℕ) (g : List Event) (G : Type 0) → Legal g → is_allowed w t g ≡ true → is_revoked n w ≡ true → ((x : Lease) → IsOfConfirmed g x → IsTold g x → is_none (lease_end g x t) ≡ true → x.intent.n ≡ n → G) → G
 revoked_of (Revoked m reason) t n g G l k r f =
     any_then (λ x. (IsOfConfirmed g x × IsTold g x) × (is_none (lease_end g x t) ≡ true)) (λ x. x.intent.n == m) G
     (λ x a e. f x a.0.0 a.0.1 a.1 (eqb-true x.intent.n m e ∙ eqb-true m n r))

@@ -7,3 +7,4 @@ pub mod Fetches
 pub mod Totals
 pub mod Unrevoked
 pub mod Whole
+pub mod Lawful

@@ -31,3 +31,7 @@ with_time s v =
 -- time of the history is then t, where it was t or earlier.
 abbrev pub KeepsView : Type 0
 KeepsView = (h : List Event) (t : ℕ) → Legal h → time h ≤ t → view (keep h t) t ≡ with_time t (view h t)
+
+-- What a compaction at t keeps of a legal history is a legal history.
+abbrev pub KeepIsLegal : Type 0
+KeepIsLegal = (h : List Event) (t : ℕ) → Legal h → time h ≤ t → t < time_limit → Legal (keep h t)

@@ -8,3 +8,4 @@ pub mod Totals
 pub mod Unrevoked
 pub mod Whole
 pub mod Lawful
+pub mod Continued

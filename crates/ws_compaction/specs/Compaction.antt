@@ -1,6 +1,6 @@
 -- The law of compaction (own): what a compaction keeps of a history stands for the whole of it, now and
 -- whatever comes after.
-use Rattle.std.specs.Prelude.{◌≡◌, ℕ, ◌+◌, ◌≤◌, ◌<◌, min, List, ◌++◌}
+use Rattle.std.specs.Prelude.{◌≡◌, ℕ, ◌≤◌, ◌<◌, ◌↔◌, List, [], ◌∷◌, ◌++◌}
 use Rattle.std.specs.List.{AllByRecursion}
 use Rattle.ws_model.specs.declared.event.Event.{Event}
 use Rattle.ws_model.specs.declared.event.What.{What}
@@ -35,3 +35,34 @@ KeepsView = (h : List Event) (t : ℕ) → Legal h → time h ≤ t → view (ke
 -- What a compaction at t keeps of a legal history is a legal history.
 abbrev pub KeepIsLegal : Type 0
 KeepIsLegal = (h : List Event) (t : ℕ) → Legal h → time h ≤ t → t < time_limit → Legal (keep h t)
+
+-- ---- whatever comes after
+
+-- the number of an event that has a new one is above those of the history
+abbrev pub IsNumberedAbove : What → List Event → Type 0
+IsNumberedAbove (Asked i) h = intent_number h < i.n
+IsNumberedAbove (Fetched v) h = version_number h < v.ver
+IsNumberedAbove _ h = Unit {0}
+
+-- an event from t on, whose serial, and whose number where it has a new one, are above those of the
+-- history
+pub record IsLater (h : List Event) (t : ℕ) (e : Event) : Type 0 where
+  pub in_time : t ≤ e.t
+  pub serial_new : serial h < e.serial
+  pub number_new : IsNumberedAbove e.what h
+
+-- The view at u of the history with the events c after it is that of what a compaction at t keeps with
+-- the same events after it. Where there are none, the time of the history is t.
+abbrev pub IsSameView : List Event → List Event → ℕ → ℕ → Type 0
+IsSameView [] h t u = view (keep h t) u ≡ with_time t (view h u)
+IsSameView (e ∷ c) h t u = view (e ∷ c ++ keep h t) u ≡ view (e ∷ c ++ h) u
+
+-- The law of compaction. Take a legal history, a compaction at t, and any later events c, the newest
+-- first, in whatever order of their times, serials and numbers. They make a legal history after the
+-- whole exactly where they do after what the compaction keeps, and where they do, both have the same
+-- view at each moment that is not before t or an event of c.
+abbrev pub CompactionLaw : Type 0
+CompactionLaw =
+    (h c : List Event) (t : ℕ) → Legal h → time h ≤ t → t < time_limit → AllByRecursion (IsLater h t) c
+    → (Legal (c ++ h) ↔ Legal (c ++ keep h t))
+    × (Legal (c ++ h) → (u : ℕ) → t ≤ u → AllByRecursion (λ e. e.t ≤ u) c → IsSameView c h t u)

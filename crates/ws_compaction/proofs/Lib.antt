@@ -9,3 +9,4 @@ pub mod Unrevoked
 pub mod Whole
 pub mod Lawful
 pub mod Continued
+pub mod Examples

@@ -10,7 +10,7 @@ use Rattle.ws_model.specs.declared.event.Tally.{Tally as TallyFields}
 use Rattle.ws_model.specs.declared.event.What.{What}
 use Rattle.ws_model.specs.declared.event.What.TheVariants.{Asked, Confirmed, Declined, Unheard, Barred, Noticed, Pinged, Fetched, Same, Unfetched, Pushed, Tally, Revoked}
 use Rattle.ws_model.specs.declared.lease.Lease.{Lease}
-use Rattle.ws_compaction.proofs.Replaced.{IsGood, added, filter_members, from_replaced, kept_more, member_cases, member_left, none_good, older_confirmed, older_ended, owed_facts, owed_live, replaced_ends, self_members, starts_right}
+use Rattle.ws_compaction.proofs.Replaced.{IsGood, added, filter_members, from_replaced, kept_more, member_cases, member_left, none_good, older_confirmed, older_ended, owed_facts, owed_live, replaced_ends, self_members}
 use Rattle.ws_compaction.proofs.Shrunk.{AreRight, IsRight, filter_swap, shrunk}
 use Rattle.ws_laws.proofs.Denied.{is_revoked}
 use Rattle.ws_laws.proofs.Ended.{IsTold, IsToldPair, both_true, is_numbered, leases_told, others, skipped}

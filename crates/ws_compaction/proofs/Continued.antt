@@ -1,5 +1,5 @@
 -- What a compaction keeps goes on as the whole history does.
-use Rattle.std.proofs.Common.{◌≡◌, ℕ, ◌≤◌, ◌<◌, Bool, true, false, ◌&&◌, List, [], ◌∷◌, ◌++◌, refl, ap, sym, ◌∙◌, subst, arith}
+use Rattle.std.proofs.Common.{◌≡◌, ℕ, ◌≤◌, ◌<◌, true, ◌&&◌, List, [], ◌∷◌, ◌++◌, refl, ap, sym, ◌∙◌, arith}
 use Rattle.std.specs.Prelude.{max, nat_lt, nat_le, ◌==◌}
 use Rattle.std.specs.List.{AllByRecursion}
 use Rattle.std.proofs.lemmas.Bool.{and_parts, eqb-true, false≢true, ltb-true}
@@ -8,7 +8,7 @@ use Rattle.ws_model.specs.declared.event.What.{What}
 use Rattle.ws_model.specs.declared.event.What.TheVariants.{Asked, Confirmed, Declined, Unheard, Barred, Noticed, Pinged, Fetched, Same, Unfetched, Pushed, Tally, Revoked}
 use Rattle.ws_compaction.proofs.Lawful.{keep_is_legal}
 use Rattle.ws_compaction.proofs.Whole.{keeps_view}
-use Rattle.ws_compaction.specs.Compaction.{CompactionLaw, IsLater, IsNumberedAbove, IsSameView, with_time}
+use Rattle.ws_compaction.specs.Compaction.{CompactionLaw, KeepsAgain, IsLater, IsNumberedAbove, IsSameView, with_time}
 use Rattle.ws_laws.proofs.Follow.{follows}
 use Rattle.ws_laws.proofs.Known.{allowed, in_time}
 use Rattle.ws_laws.proofs.Moments.{last_time_le}
@@ -289,3 +289,17 @@ module _ (h : List Event) (t : ℕ) (l : Legal h) (le : time h ≤ t) (small : t
 
 pub compaction_law : CompactionLaw
 compaction_law h c t l le small a = (((alike h t l le small c a).forth, (alike h t l le small c a).back), same_view h t l le small c a)
+
+-- ---- a second compaction
+
+pub keeps_again : KeepsAgain
+keeps_again h t u l le later small =
+    let same : view (keep h t) t ≡ with_time t (view h t) = keeps_view h t l le in
+    let at : time (keep h t) ≡ t = ap (λ (v : View). v.time) same in
+    let early : time (keep h t) ≤ u = omega arith in
+    let first : Legal (keep h t) = keep_is_legal h t l le (omega arith) in (
+      keep_is_legal (keep h t) u first early small,
+      keeps_view (keep h t) u first early
+          ∙ ap (with_time u) (advances (keep h t) t u later ∙ ap (λ v. advance v u) same)
+          ∙ sym (keeps_view h u l (omega arith) ∙ ap (with_time u) (advances h t u later)),
+    )

@@ -1,5 +1,5 @@
 -- What compactions keep of histories, worked out by hand.
-use Rattle.std.proofs.Common.{◌≡◌, ℕ, true, false, List, [], ◌∷◌, length, refl}
+use Rattle.std.proofs.Common.{◌≡◌, ℕ, true, false, List, [], ◌∷◌, refl}
 use Rattle.std.specs.Prelude.{map, codes}
 use Rattle.ws_model.specs.declared.event.Event.{Event}
 use Rattle.ws_model.specs.declared.event.Intent.{Intent}
@@ -10,19 +10,17 @@ use Rattle.ws_model.specs.declared.event.Mode.TheVariants.{On}
 use Rattle.ws_model.specs.declared.event.Alg.TheVariants.{Sha256}
 use Rattle.ws_model.specs.declared.event.How.TheVariants.{Done, Missed}
 use Rattle.ws_model.specs.declared.fate.Fate.{Fate}
-use Rattle.ws_model.specs.declared.fate.Fate.TheVariants.{Answered, Owed, Ended}
+use Rattle.ws_model.specs.declared.fate.Fate.TheVariants.{Owed, Ended}
 use Rattle.ws_model.specs.declared.fate.Cause.TheVariants.{Expired, Replaced}
 use Rattle.ws_model.specs.declared.answers.Settled.TheVariants.{Stale}
 use Rattle.ws_model.specs.declared.work.Outcome.TheVariants.{Reply}
 use Rattle.ws_model.specs.declared.work.Work.TheVariants.{Push}
 use Rattle.ws_model.specs.Account.{account}
 use Rattle.ws_model.specs.Fate.{fate}
-use Rattle.ws_model.specs.Intents.{notices, pending}
 use Rattle.ws_model.specs.Keep.{keep}
 use Rattle.ws_model.specs.Pairs.{pairs}
 use Rattle.ws_model.specs.Verdict.{verdict}
-use Rattle.ws_model.specs.Versions.{fetches}
-use Rattle.ws_model.specs.View.{owed_fetch, owed_notice, view, waiting}
+use Rattle.ws_model.specs.View.{view}
 
 -- ---- the parts of histories
 

@@ -1,5 +1,5 @@
 -- The latest versions and the owed fetches of what is kept.
-use Rattle.std.proofs.Common.{◌≡◌, ℕ, suc, ◌≤◌, ◌<◌, Bool, true, false, cond, not, ◌&&◌, ◌||◌, List, [], ◌∷◌, ◌++◌, refl, ap, sym, ◌∙◌, subst, arith, inl, inr}
+use Rattle.std.proofs.Common.{◌≡◌, ℕ, suc, ◌≤◌, ◌<◌, Bool, true, false, cond, not, ◌&&◌, List, [], ◌∷◌, ◌++◌, refl, ap, sym, ◌∙◌, subst, arith, inl, inr}
 use Rattle.std.specs.Prelude.{Option, Some, None, map, filter, find, nat_lt, ◌==◌, bytes_eq}
 use Rattle.std.specs.List.{AllByRecursion, list_any}
 use Rattle.std.proofs.lemmas.Bool.Decides.{nat_tests}
@@ -17,8 +17,8 @@ use Rattle.ws_laws.proofs.ListLaws.{all_filter_with, all_find, all_from, all_wea
 use Rattle.ws_laws.proofs.Paired.{found_kept}
 use Rattle.ws_laws.proofs.Topics.{bytes_are, bytes_same, pings_le}
 use Rattle.ws_model.specs.History.{has, since, times}
-use Rattle.ws_model.specs.Legal.{Legal, accepts, accepts_what, is_allowed, is_in_order, is_sound, number_limit, time_limit}
-use Rattle.ws_model.specs.Moment.{last_serial, last_time}
+use Rattle.ws_model.specs.Legal.{Legal, accepts_what, is_allowed, is_in_order, is_sound, number_limit, time_limit}
+use Rattle.ws_model.specs.Moment.{last_serial}
 use Rattle.ws_model.specs.Versions.{Ping, fetches, is_answer, is_owed_fetch, is_ping, is_ping_at, is_unfetched, is_version, latest, latest_of, missed_fetches, pings, pings_of, versions, versions_of}
 use Rattle.ws_model.specs.View.{owed_fetch}
 

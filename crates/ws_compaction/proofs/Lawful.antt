@@ -1,7 +1,7 @@
 -- What a compaction keeps of a legal history is a legal history.
-use Rattle.std.proofs.Common.{◌≡◌, ℕ, ◌≤◌, ◌<◌, Bool, true, false, cond, not, ◌&&◌, ◌||◌, List, [], ◌∷◌, refl, ap, sym, ◌∙◌, subst, arith, inl, inr}
+use Rattle.std.proofs.Common.{◌≡◌, ℕ, ◌≤◌, ◌<◌, Bool, true, false, cond, not, ◌&&◌, List, [], ◌∷◌, refl, ap, sym, ◌∙◌, subst, arith, inl, inr}
 use Rattle.std.specs.Prelude.{Option, Some, None, filter, find, max, nat_lt, nat_le, is_some, ◌==◌}
-use Rattle.std.specs.List.{AllByRecursion, list_any}
+use Rattle.std.specs.List.{list_any}
 use Rattle.std.proofs.lemmas.Bool.Decides.{nat_tests}
 use Rattle.std.proofs.lemmas.Bool.{and_from, and_parts, eqb-true, false_from_ne_true, false≢true, ltb-true, not-true, or_cases, or_left, or_right}
 use Rattle.ws_model.specs.declared.event.Event.{Event}
@@ -15,7 +15,7 @@ use Rattle.ws_compaction.proofs.Looks.{last_intent_kept, last_serial_kept, last_
 use Rattle.ws_compaction.proofs.Requests.{AreNoticed, AreStanding, notice_number_kept, noticed_before, pending_kept, standing_before}
 use Rattle.ws_compaction.proofs.Shrunk.{AreRight, live_kept, owed_of, pairs_kept}
 use Rattle.ws_compaction.proofs.Unrevoked.{any_filter}
-use Rattle.ws_compaction.proofs.Whole.{head, keep_is, kept, leases_in, noticed, noticed_in, passes, pending_in, right, standing, version_in}
+use Rattle.ws_compaction.proofs.Whole.{head, keep_is, noticed, noticed_in, pending_in, right, standing, version_in}
 use Rattle.ws_compaction.specs.Compaction.{KeepIsLegal}
 use Rattle.ws_laws.proofs.Known.{sound}
 use Rattle.ws_laws.proofs.ListLaws.{find-filter}
@@ -24,11 +24,11 @@ use Rattle.ws_model.specs.Fate.{Pair}
 use Rattle.ws_model.specs.Intents.{asked, is_first, is_owed_notice, is_owed_notice_number, notices, pending, same_pair}
 use Rattle.ws_model.specs.Keep.{is_kept_miss, is_kept_ping, kept_leases}
 use Rattle.ws_model.specs.Leases.{live}
-use Rattle.ws_model.specs.Legal.{Legal, accepts, accepts_what, is_allowed, is_confirmable, is_confirmed_in_time, is_first_one, is_first_tally, is_in_order, is_on_one, is_sound, is_sound_intent, is_sound_tally, is_sound_version, number_limit, pending_of, time_limit}
+use Rattle.ws_model.specs.Legal.{Legal, accepts_what, is_confirmable, is_confirmed_in_time, is_first_one, is_first_tally, is_in_order, is_on_one, is_sound, is_sound_intent, is_sound_tally, is_sound_version, number_limit, pending_of, time_limit}
 use Rattle.ws_model.specs.Moment.{intent_number, intent_number_in, last_intent, last_serial, last_time, last_version, serial, serial_in, time, version_number, version_number_in}
 use Rattle.ws_model.specs.Pairs.{owed}
 
-any_kept : {X : Type 0} (p q : X → Bool) → ((x : X) → q x ≡ true → p x ≡ true) → (xs : List X) → list_any q xs ≡ true → list_any q (filter p xs) ≡ true
+pub any_kept : {X : Type 0} (p q : X → Bool) → ((x : X) → q x ≡ true → p x ≡ true) → (xs : List X) → list_any q xs ≡ true → list_any q (filter p xs) ≡ true
 any_kept p q f [] k = k
 any_kept p q f (x ∷ xs) k = one (p x) refl (any_kept p q f xs)
   where

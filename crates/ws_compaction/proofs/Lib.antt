@@ -9,4 +9,6 @@ pub mod Unrevoked
 pub mod Whole
 pub mod Lawful
 pub mod Continued
+pub mod Pairs
+pub mod Least
 pub mod Examples

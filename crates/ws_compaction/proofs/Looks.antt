@@ -1,11 +1,10 @@
 -- Looking back over what is kept.
 use Rattle.std.proofs.Common.{◌≡◌, ℕ, suc, ◌≤◌, Bool, true, false, cond, ◌||◌, List, [], ◌∷◌, refl, ap, sym, ◌∙◌, arith, inl, inr}
-use Rattle.std.specs.Prelude.{max}
 use Rattle.std.specs.List.{AllByRecursion}
 use Rattle.std.proofs.lemmas.Bool.{false_from_ne_true, false≢true, or_cases, or_from, or_left, or_parts, or_right}
 use Rattle.ws_compaction.proofs.Shrunk.{shrunk}
 use Rattle.ws_model.specs.History.{has, times}
-use Rattle.ws_model.specs.Moment.{asked_number, fetched_number, intent_number, intent_number_in, last_intent, last_serial, last_time, last_version, serial, serial_in, time, time_in, version_number, version_number_in}
+use Rattle.ws_model.specs.Moment.{intent_number, last_intent, last_serial, last_time, last_version, serial, time, version_number}
 use Rattle.ws_model.specs.declared.event.Event.{Event}
 use Rattle.ws_model.specs.declared.event.Tally.{Tally as TallyFields}
 use Rattle.ws_model.specs.declared.event.What.{What}

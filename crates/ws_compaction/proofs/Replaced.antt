@@ -13,7 +13,7 @@ use Rattle.ws_laws.proofs.Advance.{is_owed_parts}
 use Rattle.ws_laws.proofs.Denied.{is_barred, is_revoked, not_both, revoked_confirmed}
 use Rattle.ws_laws.proofs.Ended.{IsTold, IsToldPair, both_true, is_numbered, leases_told, others, pairs_told, skipped}
 use Rattle.ws_laws.proofs.Known.{IsKnown, IsOfConfirmed, allowed, has_later, in_time, itself, leases_confirmed, pairs_known}
-use Rattle.ws_laws.proofs.ListLaws.{all_filter_with, all_find, all_from, all_weaker, any_then}
+use Rattle.ws_laws.proofs.ListLaws.{all_filter_with, all_from, all_weaker, any_then}
 use Rattle.ws_laws.proofs.Step.{EndsBy, ended_before, ends_later, first_end_le}
 use Rattle.ws_model.specs.Fate.{Pair, fate, is_owed}
 use Rattle.ws_model.specs.History.{has}

@@ -1,24 +1,24 @@
 -- The pending intents and the owed notices of what is kept.
-use Rattle.std.proofs.Common.{◌≡◌, ℕ, suc, ◌≤◌, ◌<◌, Bool, true, false, cond, not, ◌&&◌, ◌||◌, List, [], ◌∷◌, refl, ap, sym, ◌∙◌, subst, arith, inl, inr, ◌⊎◌}
-use Rattle.std.specs.Prelude.{Option, Some, None, map, filter, find, nat_lt, ◌==◌}
-use Rattle.std.specs.List.{AllByRecursion, list_any}
+use Rattle.std.proofs.Common.{◌≡◌, ℕ, suc, ◌≤◌, Bool, true, false, cond, not, ◌||◌, List, [], ◌∷◌, refl, ap, sym, ◌∙◌, subst, arith, inl, inr, ◌⊎◌}
+use Rattle.std.specs.Prelude.{map, filter, nat_lt, ◌==◌}
+use Rattle.std.specs.List.{AllByRecursion}
 use Rattle.std.proofs.lemmas.Bool.Decides.{nat_tests}
-use Rattle.std.proofs.lemmas.Bool.{and_from, and_parts, eqb-true, false_from_ne_true, false≢true, ltb-true, not-true, or_cases, or_left, or_parts, or_right}
+use Rattle.std.proofs.lemmas.Bool.{and_from, and_parts, eqb-true, false_from_ne_true, false≢true, not-true, or_cases, or_left, or_parts, or_right}
 use Rattle.ws_model.specs.declared.event.Event.{Event}
 use Rattle.ws_model.specs.declared.event.Intent.{Intent}
 use Rattle.ws_model.specs.declared.event.Tally.{Tally as TallyFields}
 use Rattle.ws_model.specs.declared.event.What.{What}
-use Rattle.ws_model.specs.declared.event.What.TheVariants.{Asked, Confirmed, Declined, Unheard, Barred, Noticed, Revoked}
-use Rattle.ws_compaction.proofs.Choice.{asked_kept, choice, chosen, kept_of, lease_in, request_in}
+use Rattle.ws_model.specs.declared.event.What.TheVariants.{Confirmed, Unheard, Barred, Noticed, Revoked}
+use Rattle.ws_compaction.proofs.Choice.{asked_kept, choice, kept_of, lease_in, request_in}
 use Rattle.ws_compaction.proofs.Looks.{Unlost, has_less, has_more, has_none, has_same, none_in, times_le, times_same}
 use Rattle.ws_compaction.proofs.Shrunk.{filter_swap}
-use Rattle.ws_laws.proofs.Denied.{is_barred, is_revoked, pending_named, unsettled}
+use Rattle.ws_laws.proofs.Denied.{is_barred, is_revoked, pending_named}
 use Rattle.ws_laws.proofs.Known.{allowed}
 use Rattle.ws_laws.proofs.ListLaws.{all_filter_with, all_from, all_weaker, filter_all, map_same}
 use Rattle.ws_model.specs.History.{has, times}
 use Rattle.ws_model.specs.Intents.{asked, is_denied, is_noticed, is_owed_notice, is_owed_notice_number, is_pending, is_pending_number, is_settled, is_unheard, notices, pending}
 use Rattle.ws_model.specs.Leases.{is_confirmed}
-use Rattle.ws_model.specs.Legal.{Legal, accepts, is_allowed, is_confirmable, is_on_one}
+use Rattle.ws_model.specs.Legal.{accepts, is_allowed, is_confirmable, is_on_one}
 use Rattle.ws_model.specs.View.{owed_notice, reason_in, reason_of, waiting}
 
 -- ---- what is pending was pending before

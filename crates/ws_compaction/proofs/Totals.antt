@@ -1,7 +1,6 @@
 -- The counts of what is kept, with those of what is forgotten.
-use Rattle.std.proofs.Common.{◌≡◌, ℕ, ◌+◌, Bool, true, false, cond, not, ◌&&◌, ◌||◌, List, [], ◌∷◌, ◌++◌, length, refl, ap, sym, ◌∙◌, arith}
+use Rattle.std.proofs.Common.{◌≡◌, ℕ, ◌+◌, Bool, true, false, cond, not, ◌&&◌, ◌||◌, List, [], ◌∷◌, length, refl, ap, sym, ◌∙◌, arith}
 use Rattle.std.specs.Prelude.{map, filter, min}
-use Rattle.std.specs.List.{AllByRecursion}
 use Rattle.std.proofs.lemmas.Bool.{false≢true}
 use Rattle.ws_model.specs.declared.event.Event.{Event}
 use Rattle.ws_model.specs.declared.event.Tally.{Tally as TallyFields}
@@ -36,7 +35,7 @@ module _ (head : TallyFields) (passes : Event → Bool) (lease_in version_in : �
   abbrev held : Pair → Bool
   held p = is_held_pair head passes lease_in version_in p
 
-  tallies_kept : (g : List Event) → ((e : Event) → passes e ≡ true → tallies_of e.what ≡ []) → tallies (kept g) ≡ head ∷ []
+  pub tallies_kept : (g : List Event) → ((e : Event) → passes e ≡ true → tallies_of e.what ≡ []) → tallies (kept g) ≡ head ∷ []
   tallies_kept [] f = refl
   tallies_kept (e ∷ g) f = one (passes e) refl (tallies_kept g f)
     where

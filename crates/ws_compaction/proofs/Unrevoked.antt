@@ -1,12 +1,12 @@
 -- A lease that is kept was confirmed, and one that was revoked is kept for its owed notice alone.
-use Rattle.std.proofs.Common.{◌≡◌, ℕ, ◌≤◌, Bool, true, false, cond, ◌||◌, List, [], ◌∷◌, ◌++◌, refl, ap, sym, ◌∙◌, subst, arith, inl, inr, ◌⊎◌}
+use Rattle.std.proofs.Common.{◌≡◌, ℕ, ◌≤◌, Bool, true, false, cond, ◌||◌, List, [], ◌∷◌, ◌++◌, ap, sym, ◌∙◌, subst, arith, inl, inr, ◌⊎◌}
 use Rattle.std.specs.Prelude.{is_none, Option, Some, None, map, filter, find, ◌==◌}
 use Rattle.std.specs.List.{AllByRecursion, list_any}
 use Rattle.std.proofs.lemmas.Bool.{eqb-true, false_from_ne_true, false≢true, or_cases, or_left, or_right}
 use Rattle.ws_model.specs.declared.event.Event.{Event}
 use Rattle.ws_model.specs.declared.event.Intent.{Intent}
 use Rattle.ws_model.specs.declared.event.What.{What}
-use Rattle.ws_model.specs.declared.event.What.TheVariants.{Confirmed, Revoked}
+use Rattle.ws_model.specs.declared.event.What.TheVariants.{Revoked}
 use Rattle.ws_model.specs.declared.lease.Lease.{Lease}
 use Rattle.ws_compaction.proofs.Replaced.{added, any-map, filter_members, from_replaced, live_first, member_cases, none_before, older_confirmed, replaced_ends, revoked_of}
 use Rattle.ws_laws.proofs.Denied.{is_revoked, revoked_gone}

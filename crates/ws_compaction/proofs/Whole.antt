@@ -1,8 +1,8 @@
 -- What a compaction keeps has the view of the whole history.
-use Rattle.std.proofs.Common.{◌≡◌, ℕ, ◌+◌, ◌≤◌, ◌<◌, Bool, true, false, cond, not, ◌&&◌, ◌||◌, List, [], ◌∷◌, ◌++◌, length, refl, ap, sym, ◌∙◌, subst, arith, inl, inr, ◌⊎◌}
-use Rattle.std.specs.Prelude.{Option, Some, None, map, filter, ◌==◌, bytes_eq}
+use Rattle.std.proofs.Common.{◌≡◌, ℕ, ◌≤◌, Bool, true, false, not, ◌||◌, List, [], ◌∷◌, ◌++◌, length, refl, ap, sym, ◌∙◌, subst, arith, inl, inr, ◌⊎◌}
+use Rattle.std.specs.Prelude.{map, ◌==◌}
 use Rattle.std.specs.List.{AllByRecursion, list_any}
-use Rattle.std.proofs.lemmas.Bool.{and_parts, eqb-true, false_from_ne_true, false≢true, not-true, or_cases, or_left, or_right}
+use Rattle.std.proofs.lemmas.Bool.{and_parts, eqb-true, false≢true, not-true, or_cases, or_left, or_right}
 use Rattle.std.proofs.lemmas.List.{length-map}
 use Rattle.ws_model.specs.declared.event.Event.{Event}
 use Rattle.ws_model.specs.declared.event.Intent.{Intent}
@@ -12,8 +12,7 @@ use Rattle.ws_model.specs.declared.event.What.{What}
 use Rattle.ws_model.specs.declared.event.What.TheVariants.{Asked, Confirmed, Declined, Unheard, Barred, Noticed, Pinged, Fetched, Same, Unfetched, Pushed, Tally, Revoked}
 use Rattle.ws_model.specs.declared.fate.Cause.TheVariants.{Expired, Unsubscribed, Replaced, Gone, Spent, Revoked as LeaseRevoked}
 use Rattle.ws_model.specs.declared.fate.Fate.{Fate}
-use Rattle.ws_model.specs.declared.lease.Lease.{Lease}
-use Rattle.ws_compaction.proofs.Choice.{all_right, choice, chosen, kept_of, lease_in, live_numbers, owed_numbers, request_in}
+use Rattle.ws_compaction.proofs.Choice.{all_right, choice, kept_of, live_numbers, owed_numbers}
 use Rattle.ws_compaction.proofs.Fetches.{AreLatestKept, fetches_same, found_in, latest_same}
 use Rattle.ws_compaction.proofs.Looks.{intent_kept, serial_kept, time_kept, version_kept}
 use Rattle.ws_compaction.proofs.Replaced.{kept_more, member_right, noticed_denied, starts_right, unbarred_revoked}
@@ -29,9 +28,9 @@ use Rattle.ws_laws.proofs.Moments.{last_time_le}
 use Rattle.ws_model.specs.Account.{account, is_answered, is_ended, tallies_of, total}
 use Rattle.ws_model.specs.Fate.{Pair, fate, is_owed}
 use Rattle.ws_model.specs.History.{has}
-use Rattle.ws_model.specs.Intents.{asked, is_owed_notice, is_pending, is_settled, is_unheard, notices, pending}
+use Rattle.ws_model.specs.Intents.{asked, is_owed_notice, is_pending, is_settled, notices, pending}
 use Rattle.ws_model.specs.Keep.{first_kept, forgotten, is_among, is_kept_miss, is_kept_ping, keep, keeps, kept_leases, member, numbers, tally}
-use Rattle.ws_model.specs.Leases.{is_confirmed, leases, live}
+use Rattle.ws_model.specs.Leases.{live}
 use Rattle.ws_model.specs.Legal.{Legal}
 use Rattle.ws_model.specs.Moment.{intent_number, last_time, serial, time, version_number}
 use Rattle.ws_model.specs.Pairs.{owed, pairs}
@@ -99,7 +98,7 @@ module _ (h : List Event) (t : ℕ) where
       ap (λ es. es ++ tally h t ∷ []) (filter_same (λ e. keeps h t e e.what) passes h (all_from (λ (e : Event). keeps h t e e.what ≡ passes e) (λ e. keeps_choice e e.what) h))
       ∙ shrunk_is head passes leases_in version_in h
 
-  no_tally_chosen : (e : Event) (w : What) → choose e w ≡ true → tallies_of w ≡ []
+  pub no_tally_chosen : (e : Event) (w : What) → choose e w ≡ true → tallies_of w ≡ []
   no_tally_chosen e (Tally c) k = absurd (false≢true k)
   no_tally_chosen e _ k = refl
 
@@ -186,7 +185,7 @@ module _ (h : List Event) (t : ℕ) where
     pub same_owed : map (owed_push (kept h)) (owed (kept h) t) ≡ map (owed_push h) (owed h t)
     same_owed = owed_same head passes leases_in version_in h l right t (owed_numbers version_in h t l owed_versions)
 
-    same_total : (test : Fate → Bool) (field : TallyFields → ℕ) → field head ≡ forgotten test field h t → total test field (kept h) t ≡ total test field h t
+    pub same_total : (test : Fate → Bool) (field : TallyFields → ℕ) → field head ≡ forgotten test field h t → total test field (kept h) t ≡ total test field h t
     same_total test field said = total_kept head passes leases_in version_in h l right (λ e k. no_tally_chosen e e.what k) test field t said
 
     pub same_account : account (kept h) t ≡ account h t

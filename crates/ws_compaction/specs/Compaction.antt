@@ -1,13 +1,19 @@
 -- The law of compaction (own): what a compaction keeps of a history stands for the whole of it, now and
 -- whatever comes after.
-use Rattle.std.specs.Prelude.{◌≡◌, ℕ, ◌≤◌, ◌<◌, ◌↔◌, List, [], ◌∷◌, ◌++◌}
+use Rattle.std.specs.Prelude.{◌≡◌, ℕ, ◌+◌, ◌≤◌, ◌<◌, ◌↔◌, min, Bool, List, [], ◌∷◌, ◌++◌, filter}
 use Rattle.std.specs.List.{AllByRecursion}
 use Rattle.ws_model.specs.declared.event.Event.{Event}
 use Rattle.ws_model.specs.declared.event.What.{What}
 use Rattle.ws_model.specs.declared.event.What.TheVariants.{Asked, Fetched}
-use Rattle.ws_model.specs.Keep.{keep}
+use Rattle.ws_model.specs.declared.event.Tally.{Tally as TallyFields}
+use Rattle.ws_model.specs.declared.fate.Cause.TheVariants.{Expired, Unsubscribed, Replaced, Gone, Spent, Revoked}
+use Rattle.ws_model.specs.declared.fate.Fate.{Fate}
+use Rattle.ws_model.specs.Account.{fated, is_answered, is_ended, most, total}
+use Rattle.ws_model.specs.Fate.{fate}
+use Rattle.ws_model.specs.Keep.{forgotten, is_kept_pair, keep}
 use Rattle.ws_model.specs.Legal.{Legal, time_limit}
 use Rattle.ws_model.specs.Moment.{time, serial, intent_number, version_number}
+use Rattle.ws_model.specs.Pairs.{pairs}
 use Rattle.ws_model.specs.View.{View, view}
 
 -- the view with another time of the history
@@ -35,6 +41,38 @@ KeepsView = (h : List Event) (t : ℕ) → Legal h → time h ≤ t → view (ke
 -- What a compaction at t keeps of a legal history is a legal history.
 abbrev pub KeepIsLegal : Type 0
 KeepIsLegal = (h : List Event) (t : ℕ) → Legal h → time h ≤ t → t < time_limit → Legal (keep h t)
+
+-- The pairs of what is kept are the kept pairs of the history, in their order, each with its fate at
+-- every moment u.
+abbrev pub KeepsPairs : Type 0
+KeepsPairs =
+    (h : List Event) (t u : ℕ) → Legal h → time h ≤ t
+    → (pairs (keep h t) ≡ filter (is_kept_pair h t) (pairs h)) × AllByRecursion (λ p. fate (keep h t) p u ≡ fate h p u) (pairs (keep h t))
+
+-- Of a fate, the pairs that are kept and the number that the new Tally says are together the number of
+-- the account, stopped at the greatest that it can say.
+abbrev pub IsCounted : (Fate → Bool) → (TallyFields → ℕ) → List Event → ℕ → Type 0
+IsCounted test field h t = total test field h t ≡ min (fated test (keep h t) t + forgotten test field h t) most
+
+-- Each number of answered or ended pairs in the account is counted so.
+pub record AreCounted (h : List Event) (t : ℕ) : Type 0 where
+  pub answered : IsCounted is_answered (λ c. c.answered) h t
+  pub expired : IsCounted (is_ended Expired) (λ c. c.expired) h t
+  pub unsubscribed : IsCounted (is_ended Unsubscribed) (λ c. c.unsubscribed) h t
+  pub replaced : IsCounted (is_ended Replaced) (λ c. c.replaced) h t
+  pub gone : IsCounted (is_ended Gone) (λ c. c.gone) h t
+  pub spent : IsCounted (is_ended Spent) (λ c. c.spent) h t
+  pub revoked : IsCounted (is_ended Revoked) (λ c. c.revoked) h t
+
+abbrev pub KeepsCounts : Type 0
+KeepsCounts = (h : List Event) (t : ℕ) → Legal h → time h ≤ t → AreCounted h t
+
+-- What a later compaction keeps of what one has kept is legal too, and has the view of what it would
+-- have kept of the whole history.
+abbrev pub KeepsAgain : Type 0
+KeepsAgain =
+    (h : List Event) (t u : ℕ) → Legal h → time h ≤ t → t ≤ u → u < time_limit
+    → Legal (keep (keep h t) u) × (view (keep (keep h t) u) u ≡ view (keep h u) u)
 
 -- ---- whatever comes after
 

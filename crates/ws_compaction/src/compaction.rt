@@ -1,9 +1,25 @@
 // The law of compaction. Each function's contract is a law, and its body is empty.
-ghost use Rattle.ws_compaction.specs.Compaction.{CompactionLaw, KeepIsLegal, KeepsView};
+ghost use Rattle.ws_compaction.specs.Least.{KeepsLeast};
+ghost use Rattle.ws_compaction.specs.Compaction.{CompactionLaw, KeepIsLegal, KeepsAgain, KeepsCounts, KeepsPairs, KeepsView};
 
 /// What a compaction keeps has the view of the whole history, its account included.
 pub fn keeps_view()
     ensures { KeepsView }
+{}
+
+/// What a compaction keeps has the kept pairs of the history, each with its fate.
+pub fn keeps_pairs()
+    ensures { KeepsPairs }
+{}
+
+/// The pairs that are kept and the numbers of the Tally are together those of the account.
+pub fn keeps_counts()
+    ensures { KeepsCounts }
+{}
+
+/// The leases that a compaction keeps are the least set that it must keep.
+pub fn keeps_least()
+    ensures { KeepsLeast }
 {}
 
 /// What a compaction keeps is a legal history.
@@ -14,4 +30,9 @@ pub fn keep_is_legal()
 /// Whatever comes after, what a compaction keeps goes on as the whole history does.
 pub fn compaction_law()
     ensures { CompactionLaw }
+{}
+
+/// A second compaction keeps as much as one alone.
+pub fn keeps_again()
+    ensures { KeepsAgain }
 {}

@@ -287,4 +287,3 @@ starts_right versions h t l le = all_weaker (λ x. IsOfConfirmed h x × IsTold h
       | inl b ↦ by_live x a.1 b
       | inr b ↦ by_notice x a.1 b
     ]
-

@@ -36,7 +36,7 @@ allowed_timed (Pushed x n how) t s v = refl
 allowed_timed (Tally c) t s v = refl
 allowed_timed (Revoked n reason) t s v = refl
 
-follow_timed : (s : ℕ) (v : View) (e : Event) → may_follow (with_time s v) e ≡ may_follow v e
+pub follow_timed : (s : ℕ) (v : View) (e : Event) → may_follow (with_time s v) e ≡ may_follow v e
 follow_timed s v e = ap (λ b. nat_lt e.serial number_limit && nat_lt e.t time_limit && is_sound e.serial e.what && b) (allowed_timed e.what e.t s v)
 
 after_timed : (s t : ℕ) (w : What) (m : ℕ) (v : View) → after s t w (confirmed_in w (with_time m v)) (with_time m v) ≡ with_time (max t m) (after s t w (confirmed_in w v) v)
@@ -54,7 +54,7 @@ after_timed s t (Pushed x n how) m v = refl
 after_timed s t (Tally c) m v = refl
 after_timed s t (Revoked n reason) m v = refl
 
-step_timed : (m : ℕ) (v : View) (e : Event) → step (with_time m v) e ≡ with_time (max e.t m) (step v e)
+pub step_timed : (m : ℕ) (v : View) (e : Event) → step (with_time m v) e ≡ with_time (max e.t m) (step v e)
 step_timed m v e = after_timed e.serial e.t e.what m v
 
 -- ---- an event with a serial of its own is no Tally
@@ -164,7 +164,7 @@ module _ (h : List Event) (t : ℕ) (b : List Event) (early : time b ≤ t) (ser
       }
 
 -- what is new over one history is new over the other
-numbered_over : (w : What) (f g : List Event) → intent_number f ≡ intent_number g → version_number f ≡ version_number g → IsNewlyNumbered w f → IsNewlyNumbered w g
+pub numbered_over : (w : What) (f g : List Event) → intent_number f ≡ intent_number g → version_number f ≡ version_number g → IsNewlyNumbered w f → IsNewlyNumbered w g
 numbered_over (Asked i) f g x y n = omega arith
 numbered_over (Fetched v) f g x y n = omega arith
 numbered_over (Tally c) f g x y n = n

@@ -9,6 +9,7 @@ pub mod Unrevoked
 pub mod Whole
 pub mod Lawful
 pub mod Continued
+pub mod Shortened
 pub mod Pairs
 pub mod Least
 pub mod Examples

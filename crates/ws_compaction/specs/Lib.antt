@@ -1,2 +1,3 @@
 pub mod Compaction
 pub mod Least
+pub mod Shortened

@@ -1,5 +1,6 @@
 // The law of compaction. Each function's contract is a law, and its body is empty.
 ghost use Rattle.ws_compaction.specs.Least.{KeepsLeast};
+ghost use Rattle.ws_compaction.specs.Shortened.{AnyCompactions};
 ghost use Rattle.ws_compaction.specs.Compaction.{CompactionLaw, KeepIsLegal, KeepsAgain, KeepsCounts, KeepsPairs, KeepsView};
 
 /// What a compaction keeps has the view of the whole history, its account included.
@@ -32,7 +33,12 @@ pub fn compaction_law()
     ensures { CompactionLaw }
 {}
 
-/// A second compaction keeps as much as one alone.
+/// What a second compaction keeps is legal too, and has the view of what one alone would have kept.
 pub fn keeps_again()
     ensures { KeepsAgain }
+{}
+
+/// After any number of compactions, what is left goes on as the history that none has touched.
+pub fn any_compactions()
+    ensures { AnyCompactions }
 {}

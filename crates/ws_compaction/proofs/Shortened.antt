@@ -1,5 +1,5 @@
 -- After any number of compactions, what is left goes on as the whole history does.
-use Rattle.std.proofs.Common.{◌≡◌, ℕ, ◌≤◌, ◌<◌, true, List, [], ◌∷◌, refl, ap, sym, ◌∙◌, arith}
+use Rattle.std.proofs.Common.{◌≡◌, ℕ, ◌≤◌, ◌<◌, true, List, ◌∷◌, refl, ap, sym, ◌∙◌, arith}
 use Rattle.std.specs.Prelude.{max}
 use Rattle.ws_model.specs.declared.event.Event.{Event}
 use Rattle.ws_compaction.proofs.Continued.{follow_timed, numbered_over, step_timed}
@@ -13,8 +13,8 @@ use Rattle.ws_laws.proofs.Moments.{own_time}
 use Rattle.ws_laws.proofs.Views.{advances, steps}
 use Rattle.ws_laws.specs.Steps.{IsNewest, advance, may_follow, step}
 use Rattle.ws_model.specs.Keep.{keep}
-use Rattle.ws_model.specs.Legal.{Legal, accepts, time_limit}
-use Rattle.ws_model.specs.Moment.{intent_number, serial, time, time_in, version_number}
+use Rattle.ws_model.specs.Legal.{accepts, time_limit}
+use Rattle.ws_model.specs.Moment.{serial, time}
 use Rattle.ws_model.specs.View.{View, view}
 
 module _ (e : Event) (whole left : List Event) (m : ℕ) (later : m ≤ e.t) (newest : IsNewest e left) (accepted : accepts left e ≡ true) (before : IsAlike whole left m) where
@@ -61,10 +61,10 @@ module _ (e : Event) (whole left : List Event) (m : ℕ) (later : m ≤ e.t) (ne
         whole_early = omega arith;
         left_early = omega arith;
         same_view = λ u le.
-        advances (e ∷ left) e.t u le
-        ∙ ap (λ v. advance v u) (steps left e (before.left_legal, accepted) newest ∙ ap (λ v. step v e) now ∙ step_timed (time left) (view whole e.t) e)
-        ∙ ap (λ v. with_time (max e.t (time left)) (advance v u)) (sym (steps whole e (before.whole_legal, accepted_whole) newest_whole))
-        ∙ sym (λ i. with_time (left_time i) (advances (e ∷ whole) e.t u le i));
+            advances (e ∷ left) e.t u le
+            ∙ ap (λ v. advance v u) (steps left e (before.left_legal, accepted) newest ∙ ap (λ v. step v e) now ∙ step_timed (time left) (view whole e.t) e)
+            ∙ ap (λ v. with_time (max e.t (time left)) (advance v u)) (sym (steps whole e (before.whole_legal, accepted_whole) newest_whole))
+            ∙ sym (λ i. with_time (left_time i) (advances (e ∷ whole) e.t u le i));
       }
 
 compacted : (t : ℕ) (whole left : List Event) (m : ℕ) → m ≤ t → t < time_limit → IsAlike whole left m → IsAlike whole (keep left t) t
@@ -79,10 +79,10 @@ compacted t whole left m later small before =
       whole_early = omega arith;
       left_early = omega arith;
       same_view = λ u le.
-      advances (keep left t) t u le
-      ∙ ap (λ v. advance v u) kept
-      ∙ ap (with_time t) (sym (advances left t u le) ∙ before.same_view u (omega arith))
-      ∙ sym (ap (λ s. with_time s (view whole u)) at);
+          advances (keep left t) t u le
+          ∙ ap (λ v. advance v u) kept
+          ∙ ap (with_time t) (sym (advances left t u le) ∙ before.same_view u (omega arith))
+          ∙ sym (ap (λ s. with_time s (view whole u)) at);
     }
 
 alike : {whole left : List Event} {m : ℕ} → IsShortened whole left m → IsAlike whole left m

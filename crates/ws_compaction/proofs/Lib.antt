@@ -1,0 +1,15 @@
+pub mod Shrunk
+pub mod Replaced
+pub mod Choice
+pub mod Looks
+pub mod Requests
+pub mod Fetches
+pub mod Totals
+pub mod Unrevoked
+pub mod Whole
+pub mod Lawful
+pub mod Continued
+pub mod Shortened
+pub mod Pairs
+pub mod Least
+pub mod Examples

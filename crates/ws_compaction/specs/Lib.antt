@@ -1,0 +1,3 @@
+pub mod Compaction
+pub mod Least
+pub mod Shortened

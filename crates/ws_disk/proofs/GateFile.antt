@@ -1,8 +1,8 @@
 -- What the two writes of a gated record leave of a file.
-use Rattle.std.proofs.Common.{◌≡◌, ◌≢◌, ◌⊎◌, ℕ, ◌+◌, ◌<◌, ◌≤◌, Bool, true, false, cond, eqb, List, [], ◌∷◌, ◌++◌, length, slice_index, take, drop, min, refl, inl, inr, sym, ◌∙◌, ap, subst, arith, append_assoc, length-append, length-take, get_or-take}
+use Rattle.std.proofs.Common.{◌≡◌, ◌≢◌, ℕ, ◌+◌, Bool, cond, eqb, List, [], ◌∷◌, ◌++◌, length, slice_index, take, drop, inl, inr, sym, ◌∙◌, ap, subst, arith, append_assoc, length-append, length-take}
 use Rattle.std.proofs.lemmas.Bool.{eq-eqb, eqb-true, cases_Bool}
 use Rattle.std.proofs.lemmas.List.{take_all, drop_all, drop_at, append-nil, get_or_at}
-use Rattle.ws_disk.specs.Crash.{overwritten, SameBefore, Torn, Follows, NoMore, Only, Elapses, LeavesOnly}
+use Rattle.ws_disk.specs.Crash.{overwritten, Torn, Follows, NoMore, Only, Elapses, LeavesOnly}
 use Rattle.ws_disk.specs.Record.{Torn-overwritten}
 use Rattle.ws_disk.proofs.Parts.{same_place}
 use Rattle.ws_disk.proofs.Goes.{started, goes_on}

@@ -1,3 +1,4 @@
+mod Filled
 mod GateFile
 pub mod Goes
 mod Moments

@@ -3,7 +3,6 @@ use Rattle.std.specs.Prelude.{◌≡◌, ℕ, ◌+◌, min, Bool, ◌||◌, ◌=
 use Rattle.std.specs.List.{list_any}
 use Rattle.ws_disk.specs.declared.log.CallLog.{CallLog}
 use Rattle.ws_disk.specs.declared.memory.MemDisk.{MemDisk}
-use Rattle.ws_disk.specs.declared.torn.TornDisk.{TornDisk}
 use Rattle.ws_disk.specs.declared.file.FileDisk.{FileDisk}
 use Rattle.ws_disk.specs.Record.{Step, steps_of, LeavesSince, Calm}
 
@@ -54,9 +53,6 @@ pub record IsNumbered (old new : MemDisk) : Type 0 where
   pub plan : IsPlanned old.log.room old.log.most old.failing.items new
   pub number : length new.log.calls.items ≡ min (length old.log.calls.items + 1) old.log.most
 
--- how often these failed, which is all that they tell
-abbrev pub torn_faults : TornDisk → ℕ
-torn_faults disk = disk.faults
-
+-- how often it failed, which is all that it tells
 abbrev pub file_faults : FileDisk → ℕ
 file_faults disk = disk.faults

@@ -1,11 +1,11 @@
 -- What the record of a disk in memory says: what a read gives, and what a crash may leave (own).
-use Rattle.std.specs.Prelude.{◌≡◌, ◌⊎◌, ℕ, zero, suc, ◌+◌, ◌≤◌, min, max, List, [], ◌∷◌, ◌++◌, length, take, drop, refl}
+use Rattle.std.specs.Prelude.{◌≡◌, ◌⊎◌, ℕ, ◌+◌, ◌≤◌, min, List, [], ◌∷◌, ◌++◌, length, take, drop, refl}
 use Rattle.std.proofs.Common.{sym, ◌∙◌, ap, subst, inl, inr, arith, length-append, length-take, length-drop}
 use Rattle.std.proofs.lemmas.Bool.{cases_lt}
 use Rattle.std.proofs.lemmas.List.{take_at, take_all, drop_at, drop_all, append_assoc}
 use Rattle.ws_disk.specs.declared.log.Call.{Call}
 use Rattle.ws_disk.specs.declared.log.Call.TheVariants.{Wrote, Cut as Shortened, Synced, Idle}
-use Rattle.ws_disk.specs.Crash.{overwritten, SameBefore, Torn, Cut, NoMore, Elapses}
+use Rattle.ws_disk.specs.Crash.{overwritten, Torn, Cut, NoMore, Elapses}
 
 -- a call with its bytes
 pub data Step : Type 0 where

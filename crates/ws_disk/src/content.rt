@@ -1,6 +1,10 @@
 // Bytes of a disk in memory.
-ghost use Rattle.std.specs.Prelude.{◌≡◌, ◌+◌, ◌-◌, ◌≤◌, ◌++◌, min, length, take, drop, vec_capacity};
+ghost use Rattle.std.specs.Prelude.{◌≡◌, ◌+◌, ◌-◌, ◌≤◌, ◌++◌, min, length, take, drop, IfOk, vec_capacity};
 ghost use Rattle.ws_disk.specs.Crash.{overwritten};
+ghost use Rattle.ws_disk.specs.Torn.{filled, marked};
+
+use std::alloc::Global;
+use ws_model::NoMemory;
 
 /// Adds bytes for which there is room. It takes no memory.
 pub(crate) fn append(content: &mut Vec<u8>, bytes: &[u8])
@@ -33,4 +37,30 @@ pub(crate) fn copy_from(content: &[u8], at: u64, into: &mut [u8]) -> usize
     let count = into.len().min(content.len() - start);
     into[..count].copy_from_slice(&content[start..start + count]);
     count
+}
+
+// The bytes with this one in each place that was written.
+pub(crate) fn fill_written(
+    alloc: Global,
+    content: &[u8],
+    written: &[bool],
+    byte: u8,
+) -> Result<Vec<u8>, NoMemory>
+    ensures { IfOk result (λ image. image.items ≡ filled byte content.now written.now) }
+{
+    Ok(
+        content
+            .iter()
+            .zip(written)
+            .map(|(held, is_written)| if *is_written { byte } else { *held })
+            .collect(alloc)?,
+    )
+}
+
+// Marks so many places from that one on as written.
+pub(crate) fn mark(written: &mut [bool], at: usize, count: usize)
+    requires { at + count ≤ length written.old }
+    ensures { written.new ≡ marked at count written.old }
+{
+    written[at..at + count].fill(true);
 }

@@ -1,4 +1,4 @@
-use Rattle.std.proofs.Common.{◌≡◌, [], ◌∷◌, ◌++◌, List, ℕ, Result, Ok, Err, OnOk, ◌∙◌, ap}
+use Rattle.std.proofs.Common.{◌≡◌, [], ◌∷◌, ◌++◌, Result, Ok, Err, OnOk, ◌∙◌, ap}
 use Rattle.ws_disk.specs.Crash.{overwritten}
 use Rattle.ws_disk.specs.Gated.{recovered, IsBeforeOrAfter}
 use Rattle.ws_disk.proofs.Goes.{goes_on}

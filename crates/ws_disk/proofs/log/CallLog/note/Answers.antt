@@ -1,5 +1,5 @@
-use Rattle.std.proofs.Common.{◌≡◌, ◌+◌, ◌++◌, [], ◌∷◌, length, ap, ◌∙◌, arith, length-append}
-use Rattle.ws_disk.specs.Record.{Step, step_of, steps_of, count_of, count_all}
+use Rattle.std.proofs.Common.{[], length, ap, ◌∙◌, arith, length-append}
+use Rattle.ws_disk.specs.Record.{steps_of, count_all}
 use Rattle.ws_disk.proofs.Pushed.{count_all-push, steps_after-push}
 use Rattle.ws_disk.proofs.log.CallLog.note.Goals as goal
 

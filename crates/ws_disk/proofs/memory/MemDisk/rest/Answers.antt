@@ -1,5 +1,4 @@
 use Rattle.ws_disk.proofs.Moments.{after_idle}
-use Rattle.ws_disk.specs.Memory.{disk_steps}
 use Rattle.ws_disk.proofs.memory.MemDisk.rest.Goals as goal
 
 pub returns-then-not-is_full-clause-calm : goal.returns-then-not-is_full-clause-calm

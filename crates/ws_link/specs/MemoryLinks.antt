@@ -1,5 +1,5 @@
 -- What links in memory tell, and what each of their calls does (own).
-use Rattle.std.specs.Prelude.{ℕ, Bool, true, false, if◌then◌else◌, ◌||◌, ◌&&◌, ◌==◌, ◌+◌, min, nat_lt, List, [], take, drop, length}
+use Rattle.std.specs.Prelude.{◌≡◌, ℕ, Bool, true, false, if◌then◌else◌, ◌||◌, ◌&&◌, ◌==◌, ◌+◌, min, nat_lt, List, [], take, drop, length}
 use Rattle.std.specs.List.{list_any}
 use Rattle.ws_link.specs.Links.{LinkContent, raised}
 use Rattle.ws_link.specs.Pieces.{piece_size}
@@ -78,7 +78,19 @@ left_after End left = left
 left_after NotYet left = left
 left_after Failed left = left
 
+-- A poll to send bytes comes to exactly this step, and changes nothing of what is left and how it goes on.
+pub record GivesSend (old : MemLink) (bytes : List ℕ) (step : Step) (new : MemLink) : Type 0 where
+  pub step_is : step ≡ step_to_send old (length bytes)
+  pub left : link_left new ≡ link_left old
+  pub plan : link_plan new ≡ link_plan old
+
+-- A poll to take comes to exactly this step; what it gave isn't left any more.
+pub record GivesTake (old : MemLink) (step : Step) (into : List ℕ) (new : MemLink) : Type 0 where
+  pub step_is : step ≡ step_to_take old (length into)
+  pub left : link_left new ≡ left_after step (link_left old)
+  pub plan : link_plan new ≡ link_plan old
+
 -- it has given and sent nothing yet, and its counts are 0
 abbrev pub is_unused : MemLink → Bool
 is_unused link =
-    (link.at == 0) && (length link.sent.items == 0) && (link.counts.faults == 0) && (link.counts.waits == 0) && (link.counts.asks == 0)
+    (length (take link.at link.content.items) == 0) && (length link.sent.items == 0) && (link.counts.faults == 0) && (link.counts.waits == 0) && (link.counts.asks == 0)

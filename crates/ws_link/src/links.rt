@@ -1,7 +1,8 @@
 // Connections that are polled: a call moves some bytes, or says why it moves none, and never waits.
-ghost use Rattle.std.specs.Prelude.{◌<◌, ℕ, Option, length};
+ghost use Rattle.std.specs.Prelude.{◌<◌, ℕ, List, Option, length};
 ghost use Rattle.ws_link.specs.Links.{LinkContent, Moves, Sends, Takes, HasStepCause};
 ghost use Rattle.ws_link.specs.declared.links.LinkCounts.{LinkCounts};
+ghost use Rattle.ws_link.specs.declared.links.Step.{Step};
 
 /// What one poll of a link came to.
 #[derive(Clone, Copy, Debug, PartialEq, Eq)]
@@ -34,11 +35,19 @@ pub trait Link {
     /// How often it failed, answered NotYet, and was polled.
     ghost counts: { Self → LinkCounts };
 
+    /// What more is known of the step of a poll to send bytes, and of the link after it.
+    ghost send_gives: { Self → List ℕ → Step → Self → Type 0 };
+
+    /// What more is known of the step of a poll to take, of the bytes in the slice after it, and of
+    /// the link after it.
+    ghost take_gives: { Self → Step → List ℕ → Self → Type 0 };
+
     /// Sends bytes from the front, and answers how many. It never answers End.
     fn poll_send(&mut self, bytes: &[u8]) -> Step
         requires { 0 < length bytes.now }
         ensures count { Moves (length bytes.now) result }
         ensures sends { Sends (content self.old) (content self.new) bytes.now result }
+        ensures gives { send_gives self.old bytes.now result self.new }
         ensures cause { HasStepCause (counts self.old) (counts self.new) result };
 
     /// Takes bytes that came from the peer, and answers how many, or End where no more come.
@@ -46,6 +55,7 @@ pub trait Link {
         requires { 0 < length into.old }
         ensures count { Moves (length into.old) result }
         ensures takes { Takes (content self.old) (content self.new) into.new result }
+        ensures gives { take_gives self.old result into.new self.new }
         ensures cause { HasStepCause (counts self.old) (counts self.new) result };
 }
 

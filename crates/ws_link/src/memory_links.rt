@@ -31,7 +31,7 @@ pub struct MemLink {
 
 impl MemLink {
     ghost use Rattle.ws_link.specs.Links.{LinkContent, no_counts, raised};
-    ghost use Rattle.ws_link.specs.MemoryLinks.{link_content, link_counts, link_left, link_sent, link_fails, link_refuses, LinkPlan, link_plan, step_at_end, content_at_end, counts_at_end};
+    ghost use Rattle.ws_link.specs.MemoryLinks.{link_content, link_counts, link_left, link_sent, link_fails, link_refuses, LinkPlan, link_plan, is_unused, step_at_end, content_at_end, counts_at_end};
 
     /// A link that gives these bytes, and then the end where `finished`.
     ///
@@ -50,6 +50,7 @@ impl MemLink {
         ensures content { IfOk result (λ link. link_content link ≡ record { given = []; sent = []; ended = false }) }
         ensures left { IfOk result (λ link. link_left link ≡ bytes.now) }
         ensures counts { IfOk result (λ link. link_counts link ≡ no_counts) }
+        ensures unused { IfOk result (λ link. is_unused link ≡ true) }
         ensures plan { IfOk result (λ link. link_plan link ≡ record { finished = finished; broken = false; pieces = pieces.now; room = room; failing = failing.now }) }
     {
         let room = room as usize;
@@ -168,21 +169,22 @@ impl MemLink {
 impl Link for MemLink {
     ghost use Rattle.std.specs.Prelude.{Some, ◌<◌};
     ghost use Rattle.ws_link.specs.Links.{Moves, Sends, Takes, HasStepCause};
-    ghost use Rattle.ws_link.specs.MemoryLinks.{link_content, link_counts, link_left, link_plan, step_to_send, step_to_take, left_after};
+    ghost use Rattle.ws_link.specs.MemoryLinks.{link_content, link_counts, GivesSend, GivesTake};
 
     ghost content = { λ link. Some (link_content link) };
 
     ghost counts = { link_counts };
 
+    ghost send_gives = { GivesSend };
+
+    ghost take_gives = { GivesTake };
+
     fn poll_send(&mut self, bytes: &[u8]) -> Step
         requires { 0 < length bytes.now }
         ensures count { Moves (length bytes.now) result }
         ensures sends { Sends (Some (link_content self.old)) (Some (link_content self.new)) bytes.now result }
+        ensures gives { GivesSend self.old bytes.now result self.new }
         ensures cause { HasStepCause (link_counts self.old) (link_counts self.new) result }
-
-        ensures step { result ≡ step_to_send self.old (length bytes.now) }
-        ensures left { link_left self.new ≡ link_left self.old }
-        ensures plan { link_plan self.new ≡ link_plan self.old }
     {
         let refused = self.refuses(bytes);
         self.counts.ask();
@@ -198,11 +200,8 @@ impl Link for MemLink {
         requires { 0 < length into.old }
         ensures count { Moves (length into.old) result }
         ensures takes { Takes (Some (link_content self.old)) (Some (link_content self.new)) into.new result }
+        ensures gives { GivesTake self.old result into.new self.new }
         ensures cause { HasStepCause (link_counts self.old) (link_counts self.new) result }
-
-        ensures step { result ≡ step_to_take self.old (length into.old) }
-        ensures left { link_left self.new ≡ left_after result (link_left self.old) }
-        ensures plan { link_plan self.new ≡ link_plan self.old }
     {
         let refused = self.fails();
         let size = piece_size(&self.pieces, self.counts.asks);

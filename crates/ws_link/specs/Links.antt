@@ -1,5 +1,5 @@
 -- What a link tells, and what polls do to it (own).
-use Rattle.std.specs.Prelude.{◌≡◌, ℕ, ◌+◌, ◌-◌, ◌^◌, ◌<◌, ◌≤◌, max, min, Bool, true, List, [], ◌++◌, length, take, Option, IfSome, ⊤}
+use Rattle.std.specs.Prelude.{◌≡◌, ℕ, ◌+◌, ◌-◌, ◌^◌, ◌<◌, ◌≤◌, max, min, Bool, true, List, [], ◌++◌, take, Option, IfSome, ⊤}
 use Rattle.std.specs.Option.{option_map}
 use Rattle.ws_model.specs.Cause.{Rose}
 use Rattle.ws_link.specs.declared.links.LinkCounts.{LinkCounts}

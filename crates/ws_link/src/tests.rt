@@ -23,10 +23,18 @@ fn memory_link_moves_in_pieces(rt: HostRuntime) -> Result<(), Fail> {
     let mut link = MemLink::made(rt.alloc(), b"abcde", false, &[1, 2], 3, &[3])?;
     let mut room = [0; 4];
     assert_eq!(rt; send(&mut link, b"xy"), Step::Took(2));
-    assert_eq!(rt; take(&mut link, &mut room), Step::Took(2), "the second piece");
-    assert_eq!(rt; &room[..2], b"ab");
-    assert_eq!(rt; take(&mut link, &mut room), Step::Took(3), "behind the pieces");
-    assert_eq!(rt; &room[..3], b"cde");
+    assert_eq!(rt;
+        take(&mut link, &mut room),
+        Step::Took(2),
+        "the second piece"
+    );
+    assert_eq!(rt; &room[..2], b"ab".as_slice());
+    assert_eq!(rt;
+        take(&mut link, &mut room),
+        Step::Took(3),
+        "behind the pieces"
+    );
+    assert_eq!(rt; &room[..3], b"cde".as_slice());
     assert_eq!(rt; take(&mut link, &mut room), Step::Failed, "the fourth call");
     assert_eq!(rt; take(&mut link, &mut room), Step::NotYet);
     link.arrive(b"f")?;
@@ -34,7 +42,7 @@ fn memory_link_moves_in_pieces(rt: HostRuntime) -> Result<(), Fail> {
     link.finish();
     assert_eq!(rt; take(&mut link, &mut room), Step::End);
     assert_eq!(rt; send(&mut link, b"zw"), Step::Failed, "past the room");
-    assert_eq!(rt; link.sent(), b"xy");
+    assert_eq!(rt; link.sent(), b"xy".as_slice());
     link.fail();
     assert_eq!(rt; send(&mut link, b"z"), Step::Failed);
     let counts = LinkCounts {
@@ -54,14 +62,13 @@ fn memory_dial_gives_links_in_order(rt: HostRuntime) -> Result<(), Fail> {
     links.push(MemLink::made(alloc, b"2", true, &[], 0, &[])?)?;
     let mut dial = MemDial::made(alloc, links, 12, &[1])?;
     let mut first = dial.dial(b"a.example", 8080)?;
-    assert_eq!(rt; dial.dialed(), b"a.example\x1f\x90");
+    assert_eq!(rt; dial.dialed(), b"a.example\x1f\x90".as_slice());
     let mut room = [0; 4];
     assert_eq!(rt; take(&mut first, &mut room), Step::Took(1));
     assert_eq!(rt; room[0], b'1');
     assert!(rt; dial.dial(b"", 1).is_err(), "the second call");
     assert!(rt; dial.dial(b"b", 1).is_err(), "no room");
-    dial.hang_up(first);
-    assert_eq!(rt; dial.back().len(), 1);
+    assert!(rt; dial.back().is_empty());
     Ok(())
 }
 

@@ -48,8 +48,8 @@ impl MemSource {
     }
 }
 
-// The most that the call of this number gives.
-fn piece_size(pieces: &[u32], call: u64) -> usize
+/// The most that the call of this number gives.
+pub fn piece_size(pieces: &[u32], call: u64) -> usize
     ensures size { result ≡ piece_size pieces.now call }
     ensures some { 0 < result }
 {
@@ -59,8 +59,8 @@ fn piece_size(pieces: &[u32], call: u64) -> usize
     }
 }
 
-// Puts as much as fits of the bytes, and at most that many.
-fn fill(into: &mut [u8], rest: &[u8], most: usize) -> usize
+/// Puts as much as fits of the bytes, and at most that many.
+pub fn fill(into: &mut [u8], rest: &[u8], most: usize) -> usize
     ensures size { result ≡ min (min (length into.old) (length rest.now)) most }
     ensures bytes { take result into.new ≡ take result rest.now }
 {

@@ -1,0 +1,15 @@
+//! A plain, slow program that computes the definitions of a history by scanning its events: what
+//! tables of the hub are compared with in tests.
+//!
+//! Each function takes the events oldest first.
+#![tactic(auto)]
+
+mod intents;
+mod leases;
+mod past;
+mod ping;
+mod sought;
+mod versions;
+
+pub use intents::{notices, pending};
+pub use leases::live;

@@ -1,7 +1,7 @@
 // Pending intents and owed denial notices (WebSub sections 5.1 to 5.3).
 ghost use Rattle.std.specs.Prelude.{◌≡◌, ◌&&◌, not, nat_lt, IfOk};
 ghost use Rattle.std.specs.List.{list_any};
-ghost use Rattle.ws_model.specs.Intents.{asked, is_pending_number, is_owed_notice_number, notices, pending, same_pair};
+ghost use Rattle.ws_model.specs.Intents.{asked, is_pending_number, is_owed_notice, is_owed_notice_number, notices, pending, same_pair};
 ghost use Rattle.ws_plain.specs.Past.{past};
 
 use crate::past::{in_front, newest};
@@ -46,12 +46,18 @@ fn is_owed_notice_number(events: &[Event], n: u64) -> bool
         && times(events, &Sought::Noticed(n, false)) < 3
 }
 
+fn is_owed_notice(events: &[Event], intent: &Intent) -> bool
+    ensures { result ≡ is_owed_notice (past events.now) intent.now }
+{
+    is_owed_notice_number(events, intent.n)
+}
+
 /// The intents whose denial notice is owed, the newest first.
 pub fn notices(alloc: Global, events: &[Event]) -> Result<Vec<Intent>, NoMemory>
     ensures { IfOk result (λ v. v.items ≡ notices (past events.now)) }
 {
     let mut intents = asked(alloc, events)?;
-    intents.retain(|intent| is_owed_notice_number(events, intent.n));
+    intents.retain(|intent| is_owed_notice(events, intent));
     Ok(intents)
 }
 

@@ -4,8 +4,11 @@
 //! Each function takes the events oldest first.
 #![tactic(auto)]
 
+mod fates;
 mod intents;
 mod leases;
+mod pair;
+mod pairs;
 mod past;
 mod ping;
 mod sought;

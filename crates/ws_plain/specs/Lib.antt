@@ -1,3 +1,4 @@
 pub mod Past
 pub mod Sought
 pub mod Capped
+pub mod Tests

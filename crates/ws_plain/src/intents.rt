@@ -1,8 +1,9 @@
 // Pending intents and owed denial notices (WebSub sections 5.1 to 5.3).
 ghost use Rattle.std.specs.Prelude.{◌≡◌, ◌&&◌, not, nat_lt, IfOk};
 ghost use Rattle.std.specs.List.{list_any};
-ghost use Rattle.ws_model.specs.Intents.{asked, is_pending_number, is_owed_notice, is_owed_notice_number, notices, pending, same_pair};
+ghost use Rattle.ws_model.specs.Intents.{asked, is_pending_number, is_owed_notice_number, notices, pending, same_pair};
 ghost use Rattle.ws_plain.specs.Past.{past};
+ghost use Rattle.ws_plain.specs.Tests.{owes_notice};
 
 use crate::past::{in_front, newest};
 use crate::sought::{Sought, has, times};
@@ -46,8 +47,9 @@ fn is_owed_notice_number(events: &[Event], n: u64) -> bool
         && times(events, &Sought::Noticed(n, false)) < 3
 }
 
-fn is_owed_notice(events: &[Event], intent: &Intent) -> bool
-    ensures { result ≡ is_owed_notice (past events.now) intent.now }
+#[tactic(auto, unfolding(crate::specs::Tests::owes_notice))]
+fn owes_notice(events: &[Event], intent: &Intent) -> bool
+    ensures { result ≡ owes_notice (past events.now) intent.now }
 {
     is_owed_notice_number(events, intent.n)
 }
@@ -57,7 +59,7 @@ pub fn notices(alloc: Global, events: &[Event]) -> Result<Vec<Intent>, NoMemory>
     ensures { IfOk result (λ v. v.items ≡ notices (past events.now)) }
 {
     let mut intents = asked(alloc, events)?;
-    intents.retain(|intent| is_owed_notice(events, intent));
+    intents.retain(|intent| owes_notice(events, intent));
     Ok(intents)
 }
 

@@ -7,6 +7,7 @@
 mod fates;
 mod intents;
 mod leases;
+mod order;
 mod pair;
 mod pairs;
 mod past;

@@ -1,4 +1,5 @@
 pub mod Past
 pub mod Sought
 pub mod Capped
-pub mod Tests
+pub mod Alike
+pub mod Tallies

@@ -3,6 +3,8 @@ ghost use Rattle.std.specs.Prelude.{◌≡◌};
 ghost use Rattle.ws_model.specs.History.{newest_time, times};
 ghost use Rattle.ws_model.specs.Fate.{fate, is_miss, is_push, next_by};
 ghost use Rattle.ws_model.specs.Pairs.{pair};
+ghost use Rattle.ws_model.specs.Account.{same_cause};
+ghost use Rattle.ws_plain.specs.Alike.{alike};
 ghost use Rattle.ws_plain.specs.Capped.{capped};
 ghost use Rattle.ws_plain.specs.Past.{past};
 
@@ -46,6 +48,34 @@ pub(crate) fn fate(events: &[Event], version: &Version, lease: &Lease, born: u64
         None => Fate::Owed {
             tries: tries as u8,
             next: next(events, ver, n, born).min(u128::from(u64::MAX)) as u64,
+        },
+    }
+}
+
+fn same_cause(a: Cause, b: Cause) -> bool
+    ensures { result ≡ same_cause a b }
+{
+    match (a, b) {
+        (Cause::Expired, Cause::Expired)
+        | (Cause::Unsubscribed, Cause::Unsubscribed)
+        | (Cause::Replaced, Cause::Replaced)
+        | (Cause::Gone, Cause::Gone)
+        | (Cause::Spent, Cause::Spent)
+        | (Cause::Revoked, Cause::Revoked) => true,
+        _ => false,
+    }
+}
+
+/// Whether a fate is of the wanted kind: owed, answered, or ended by the same cause.
+pub(crate) fn is_alike(wanted: Fate, fate: Fate) -> bool
+    ensures { result ≡ alike wanted fate }
+{
+    match wanted {
+        Fate::Answered => matches!(fate, Fate::Answered),
+        Fate::Owed { .. } => matches!(fate, Fate::Owed { .. }),
+        Fate::Ended(cause) => match fate {
+            Fate::Ended(other) => same_cause(cause, other),
+            _ => false,
         },
     }
 }

@@ -3,7 +3,6 @@ ghost use Rattle.std.specs.Prelude.{◌≡◌, ◌&&◌, not, nat_lt, IfOk};
 ghost use Rattle.std.specs.List.{list_any};
 ghost use Rattle.ws_model.specs.Intents.{asked, is_pending_number, is_owed_notice_number, notices, pending, same_pair};
 ghost use Rattle.ws_plain.specs.Past.{past};
-ghost use Rattle.ws_plain.specs.Tests.{owes_notice};
 
 use crate::past::{in_front, newest};
 use crate::sought::{Sought, has, times};
@@ -47,20 +46,18 @@ fn is_owed_notice_number(events: &[Event], n: u64) -> bool
         && times(events, &Sought::Noticed(n, false)) < 3
 }
 
-#[tactic(auto, unfolding(crate::specs::Tests::owes_notice))]
-fn owes_notice(events: &[Event], intent: &Intent) -> bool
-    ensures { result ≡ owes_notice (past events.now) intent.now }
-{
-    is_owed_notice_number(events, intent.n)
-}
-
 /// The intents whose denial notice is owed, the newest first.
 pub fn notices(alloc: Global, events: &[Event]) -> Result<Vec<Intent>, NoMemory>
     ensures { IfOk result (λ v. v.items ≡ notices (past events.now)) }
 {
-    let mut intents = asked(alloc, events)?;
-    intents.retain(|intent| owes_notice(events, intent));
-    Ok(intents)
+    let asked = asked(alloc, events)?;
+    let mut owed = Vec::new(alloc);
+    for intent in &asked {
+        if is_owed_notice_number(events, intent.n) {
+            owed.push(intent.copy(alloc)?)?;
+        }
+    }
+    Ok(owed)
 }
 
 /// Whether two intents are of one topic and callback.

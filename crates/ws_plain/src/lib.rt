@@ -4,9 +4,11 @@
 //! Each function takes the events oldest first.
 #![tactic(auto)]
 
+
 mod fates;
 mod intents;
 mod leases;
+mod moments;
 mod order;
 mod pair;
 mod pairs;
@@ -14,6 +16,8 @@ mod past;
 mod ping;
 mod sought;
 mod versions;
+mod works;
 
+pub use works::due;
 pub use intents::{notices, pending};
 pub use leases::live;

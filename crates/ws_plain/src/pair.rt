@@ -1,9 +1,11 @@
 // A pair of a version and a lease.
-ghost use Rattle.std.specs.Prelude.{◌≡◌};
+ghost use Rattle.std.specs.Prelude.{◌≡◌, IfOk};
 
 use crate::fates;
+use crate::leases::copy_lease;
+use std::alloc::Global;
 use std::marker::Model;
-use ws_model::{Event, Fate, Lease, Version};
+use ws_model::{Event, Fate, Lease, NoMemory, Version};
 
 /// A version, a lease that it is for, and the time in seconds of the event that made the pair.
 #[derive(Debug, Drop)]
@@ -24,6 +26,7 @@ impl Model for Pair {
 impl Pair {
     ghost use Rattle.ws_model.specs.Fate.{fate, is_owed, next};
     ghost use Rattle.ws_model.specs.Pairs.{pair};
+    ghost use Rattle.ws_plain.specs.Alike.{alike};
     ghost use Rattle.ws_plain.specs.Capped.{capped};
     ghost use Rattle.ws_plain.specs.Past.{past};
 
@@ -35,6 +38,16 @@ impl Pair {
             lease,
             born,
         }
+    }
+
+    pub(crate) fn copy(&self, alloc: Global) -> Result<Pair, NoMemory>
+        ensures { IfOk result (λ p. p ≡ self.now) }
+    {
+        Ok(Pair {
+            version: self.version.copy(alloc)?,
+            lease: copy_lease(alloc, &self.lease)?,
+            born: self.born,
+        })
     }
 
     pub(crate) fn version(&self) -> &Version
@@ -69,5 +82,13 @@ impl Pair {
         ensures { result ≡ is_owed (fate (past events.now) self.now t) }
     {
         matches!(self.fate(events, t), Fate::Owed { .. })
+    }
+
+    /// Whether the fate at a time in seconds is of the wanted kind.
+    #[tactic(auto, using(crate::proofs::Delays::alike_capped))]
+    pub(crate) fn has_fate(&self, events: &[Event], t: u64, wanted: Fate) -> bool
+        ensures { result ≡ alike wanted (fate (past events.now) self.now t) }
+    {
+        fates::is_alike(wanted, self.fate(events, t))
     }
 }

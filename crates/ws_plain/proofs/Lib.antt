@@ -1,3 +1,4 @@
 pub mod Pasts
 pub mod Delays
 pub mod Orders
+pub mod Filters

@@ -4,7 +4,7 @@
 //! Each function takes the events oldest first.
 #![tactic(auto)]
 
-
+mod counts;
 mod fates;
 mod intents;
 mod leases;
@@ -18,6 +18,8 @@ mod sought;
 mod versions;
 mod works;
 
-pub use works::due;
+pub use counts::account;
 pub use intents::{notices, pending};
 pub use leases::live;
+pub use pairs::fate;
+pub use works::due;

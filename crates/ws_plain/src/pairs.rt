@@ -1,6 +1,9 @@
 // Which versions are owed to which leases (WebSub section 7).
-ghost use Rattle.std.specs.Prelude.{◌≡◌, [], ◌∷◌, IfOk, bytes_eq, filter, map};
+ghost use Rattle.std.specs.Prelude.{◌≡◌, ◌==◌, ◌&&◌, [], ◌∷◌, IfOk, bytes_eq, filter, find, map};
+ghost use Rattle.std.specs.Option.{option_map};
 ghost use Rattle.ws_model.specs.Fate.{fate, is_owed};
+ghost use Rattle.ws_model.specs.Verdict.{fate_of};
+ghost use Rattle.ws_plain.specs.Capped.{capped};
 ghost use Rattle.ws_model.specs.Leases.{confirmed_intent, live};
 ghost use Rattle.ws_model.specs.Pairs.{births, carried, owed, pair, pairs};
 ghost use Rattle.ws_plain.specs.Past.{past};
@@ -10,7 +13,7 @@ use crate::leases::{copy_lease, lease_of, live};
 use crate::pair::Pair;
 use crate::past::newest;
 use std::alloc::Global;
-use ws_model::{Event, Lease, NoMemory, Version, What};
+use ws_model::{Event, Fate, Lease, NoMemory, Version, What};
 
 // A version is owed to each live lease of its topic.
 fn fetched(
@@ -95,4 +98,30 @@ pub(crate) fn owed(alloc: Global, events: &[Event], t: u64) -> Result<Vec<Pair>,
     let mut pairs = pairs(alloc, events)?;
     pairs.retain(|pair| pair.is_owed(events, t));
     Ok(pairs)
+}
+
+/// The fate at a time in seconds of the pair of a version and a lease, by their numbers, where there
+/// is such a pair. A next try past 2^64 - 1 is given as that number.
+pub fn fate(
+    alloc: Global,
+    events: &[Event],
+    ver: u64,
+    lease: u64,
+    t: u64,
+) -> Result<Option<Fate>, NoMemory>
+    ensures { IfOk result (λ f. f ≡ option_map capped (fate_of (past events.now) ver lease t)) }
+{
+    let pairs = pairs(alloc, events)?;
+    Ok(fate_among(events, &pairs, ver, lease, t))
+}
+
+fn fate_among(events: &[Event], pairs: &[Pair], ver: u64, lease: u64, t: u64) -> Option<Fate>
+    ensures { result ≡ option_map (λ p. capped (fate (past events.now) p t)) (find (λ p. (p.version.ver == ver) && (p.lease.intent.n == lease)) pairs.now) }
+{
+    for pair in pairs {
+        if pair.version().ver == ver && pair.lease().intent.n == lease {
+            return Some(pair.fate(events, t));
+        }
+    }
+    None
 }

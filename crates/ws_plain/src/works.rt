@@ -1,5 +1,5 @@
 // The work that is due at a moment, in its order.
-ghost use Rattle.std.specs.Prelude.{◌≡◌, ◌&&◌, IfOk, filter, map, nat_le, nat_lt, not};
+ghost use Rattle.std.specs.Prelude.{◌≡◌, ◌++◌, ◌&&◌, IfOk, filter, map, nat_le, nat_lt, not};
 ghost use Rattle.std.specs.List.{list_any};
 ghost use Rattle.ws_model.specs.Due.{due, due_fetches, due_notices, due_pairs, due_pushes, due_verifications, is_behind, is_out, same_work};
 ghost use Rattle.ws_model.specs.Fate.{next};
@@ -164,14 +164,24 @@ fn is_out(out: &[Work], work: &Work) -> bool
     false
 }
 
+fn all_due(alloc: Global, events: &[Event], t: u64) -> Result<Vec<Work>, NoMemory>
+    ensures { IfOk result (λ v. v.items ≡ due_verifications (past events.now) ++ due_notices (past events.now) ++ due_fetches (past events.now) ++ due_pushes (past events.now) t) }
+{
+    let mut works = due_verifications(alloc, events)?;
+    let mut notices = due_notices(alloc, events)?;
+    let mut fetches = due_fetches(alloc, events)?;
+    let mut pushes = due_pushes(alloc, events, t)?;
+    works.append(&mut notices)?;
+    works.append(&mut fetches)?;
+    works.append(&mut pushes)?;
+    Ok(works)
+}
+
 /// The work that is due at a time in seconds, in its order, without the work whose tickets are out.
 pub fn due(alloc: Global, events: &[Event], t: u64, out: &[Work]) -> Result<Vec<Work>, NoMemory>
     ensures { IfOk result (λ v. v.items ≡ due (past events.now) t out.now) }
 {
-    let mut works = due_verifications(alloc, events)?;
-    works.append(&mut due_notices(alloc, events)?)?;
-    works.append(&mut due_fetches(alloc, events)?)?;
-    works.append(&mut due_pushes(alloc, events, t)?)?;
+    let mut works = all_due(alloc, events, t)?;
     works.retain(|work| !is_out(out, work));
     Ok(works)
 }

@@ -2,3 +2,4 @@ pub mod Pasts
 pub mod Delays
 pub mod Orders
 pub mod Filters
+pub mod Totals

@@ -3,3 +3,4 @@ pub mod Sought
 pub mod Capped
 pub mod Alike
 pub mod Tallies
+pub mod Kept

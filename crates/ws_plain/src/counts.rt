@@ -1,6 +1,6 @@
 // What a history amounts to at a moment.
 ghost use Rattle.std.specs.Prelude.{◌≡◌, ◌+◌, ◌≤◌, IfOk, filter, length, min};
-ghost use Rattle.ws_model.specs.Account.{account, most};
+ghost use Rattle.ws_model.specs.Account.{account, is_ended, most};
 ghost use Rattle.ws_model.specs.Fate.{fate};
 ghost use Rattle.ws_plain.specs.Alike.{alike};
 ghost use Rattle.ws_plain.specs.Past.{past};
@@ -34,32 +34,32 @@ fn total(events: &[Event], pairs: &[Pair], t: u64, wanted: Fate, tallied: u64) -
     (fated(events, pairs, t, wanted) as u64).saturating_add(tallied)
 }
 
+fn ended(events: &[Event], pairs: &[Pair], t: u64, cause: Cause, tallied: u64) -> u64
+    ensures { result ≡ min (length (filter (λ p. is_ended cause (fate (past events.now) p t)) pairs.now) + tallied) most }
+{
+    total(events, pairs, t, Fate::Ended(cause), tallied)
+}
+
 /// The account at a time in seconds.
 pub fn account(alloc: Global, events: &[Event], t: u64) -> Result<Account, NoMemory>
     ensures { IfOk result (λ a. a ≡ account (past events.now) t) }
 {
-    let pairs = pairs(alloc, events)?;
     let tally = tally_in(events);
-    let pending = pending(alloc, events)?;
-    let notices = notices(alloc, events)?;
-    let leases = live(alloc, events, t)?;
-    let topics = latest(alloc, events)?;
-    let fetches = fetches(alloc, events)?;
-    let owed = owed(alloc, events, t)?;
-    let ended = |cause: Cause, tallied: u64| total(events, &pairs, t, Fate::Ended(cause), tallied);
+    let all = pairs(alloc, events)?;
+    let pairs = all.as_slice();
     Ok(Account {
-        pending: pending.len() as u64,
-        notices: notices.len() as u64,
-        leases: leases.len() as u64,
-        topics: topics.len() as u64,
-        fetches: fetches.len() as u64,
-        owed: owed.len() as u64,
-        answered: total(events, &pairs, t, Fate::Answered, tally.answered),
-        expired: ended(Cause::Expired, tally.expired),
-        unsubscribed: ended(Cause::Unsubscribed, tally.unsubscribed),
-        replaced: ended(Cause::Replaced, tally.replaced),
-        gone: ended(Cause::Gone, tally.gone),
-        spent: ended(Cause::Spent, tally.spent),
-        revoked: ended(Cause::Revoked, tally.revoked),
+        pending: pending(alloc, events)?.len() as u64,
+        notices: notices(alloc, events)?.len() as u64,
+        leases: live(alloc, events, t)?.len() as u64,
+        topics: latest(alloc, events)?.len() as u64,
+        fetches: fetches(alloc, events)?.len() as u64,
+        owed: owed(alloc, events, t)?.len() as u64,
+        answered: total(events, pairs, t, Fate::Answered, tally.answered),
+        expired: ended(events, pairs, t, Cause::Expired, tally.expired),
+        unsubscribed: ended(events, pairs, t, Cause::Unsubscribed, tally.unsubscribed),
+        replaced: ended(events, pairs, t, Cause::Replaced, tally.replaced),
+        gone: ended(events, pairs, t, Cause::Gone, tally.gone),
+        spent: ended(events, pairs, t, Cause::Spent, tally.spent),
+        revoked: ended(events, pairs, t, Cause::Revoked, tally.revoked),
     })
 }

@@ -6,6 +6,7 @@
 
 mod counts;
 mod fates;
+mod found;
 mod intents;
 mod leases;
 mod moments;

@@ -1,4 +1,4 @@
-use Rattle.std.proofs.Common.{◌∷◌, ◌++◌, sym, ap, ◌∙◌, arith}
+use Rattle.std.proofs.Common.{[], ◌∷◌, ◌++◌, sym, ap, ◌∙◌, arith}
 use Rattle.ws_model.specs.Intents.{is_owed_notice}
 use Rattle.ws_plain.specs.Past.{past}
 use Rattle.ws_plain.proofs.Filters.{filter_left, filter_taken}

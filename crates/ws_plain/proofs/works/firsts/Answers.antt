@@ -1,4 +1,4 @@
-use Rattle.std.proofs.Common.{Bool, ◌∷◌, ◌++◌, sym, ap, ◌∙◌, arith}
+use Rattle.std.proofs.Common.{Bool, [], ◌∷◌, ◌++◌, sym, ap, ◌∙◌, arith}
 use Rattle.std.specs.Prelude.{◌&&◌, nat_lt, not}
 use Rattle.std.specs.List.{list_any}
 use Rattle.ws_model.specs.declared.event.Intent.{Intent}

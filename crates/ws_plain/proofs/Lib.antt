@@ -3,3 +3,4 @@ pub mod Delays
 pub mod Orders
 pub mod Filters
 pub mod Totals
+pub mod Keeping

@@ -25,9 +25,9 @@ total_is wanted f h t ps c r z p q e =
     e ∙ ap (λ xs. min (length (filter (λ p. alike wanted (fate h p t)) xs) + f c) most) p
     ∙ ap (λ n. min (length (filter (λ p. alike wanted (fate h p t)) (pairs h)) + n) most) (ap f q ∙ tallied_is f z (tallies h))
 
-pub account_is : (a : Account) (pe no le to fe ow an ex un re go sp rv : ℕ) → pe ≡ a.pending → no ≡ a.notices → le ≡ a.leases → to ≡ a.topics → fe ≡ a.fetches → ow ≡ a.owed → an ≡ a.answered → ex ≡ a.expired → un ≡ a.unsubscribed → re ≡ a.replaced → go ≡ a.gone → sp ≡ a.spent → rv ≡ a.revoked
-    → ◌≡◌ {A = Account} (record { pending = pe; notices = no; leases = le; topics = to; fetches = fe; owed = ow; answered = an; expired = ex; unsubscribed = un; replaced = re; gone = go; spent = sp; revoked = rv }) a
-account_is a pe no le to fe ow an ex un re go sp rv p1 p2 p3 p4 p5 p6 p7 p8 p9 p10 p11 p12 p13 =
+pub account_is : (a : Account) (pe nt le to fe ow an ex un re go sp rv : ℕ) → pe ≡ a.pending → nt ≡ a.notices → le ≡ a.leases → to ≡ a.topics → fe ≡ a.fetches → ow ≡ a.owed → an ≡ a.answered → ex ≡ a.expired → un ≡ a.unsubscribed → re ≡ a.replaced → go ≡ a.gone → sp ≡ a.spent → rv ≡ a.revoked
+    → ◌≡◌ {A = Account} (record { pending = pe; notices = nt; leases = le; topics = to; fetches = fe; owed = ow; answered = an; expired = ex; unsubscribed = un; replaced = re; gone = go; spent = sp; revoked = rv }) a
+account_is a pe nt le to fe ow an ex un re go sp rv p1 p2 p3 p4 p5 p6 p7 p8 p9 p10 p11 p12 p13 =
     λ i. record {
       pending = p1 i; notices = p2 i; leases = p3 i; topics = p4 i; fetches = p5 i; owed = p6 i; answered = p7 i;
       expired = p8 i; unsubscribed = p9 i; replaced = p10 i; gone = p11 i; spent = p12 i; revoked = p13 i;

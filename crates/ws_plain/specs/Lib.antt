@@ -4,3 +4,4 @@ pub mod Capped
 pub mod Alike
 pub mod Tallies
 pub mod Kept
+pub mod Told

@@ -4,6 +4,8 @@
 //! Each function takes the events oldest first.
 #![tactic(auto)]
 
+mod compaction;
+mod copies;
 mod counts;
 mod fates;
 mod found;
@@ -19,6 +21,7 @@ mod sought;
 mod versions;
 mod works;
 
+pub use compaction::keep;
 pub use counts::account;
 pub use intents::{notices, pending};
 pub use leases::live;

@@ -27,3 +27,6 @@ pub use intents::{notices, pending};
 pub use leases::live;
 pub use pairs::fate;
 pub use works::due;
+
+#[cfg(test)]
+mod tests;

@@ -46,11 +46,8 @@ fn carried(
     let mut carried = Vec::new(alloc);
     for pair in pairs {
         if pair.is_owed(earlier, t) && same_pair(&lease.intent, &pair.lease().intent) {
-            carried.push(Pair::new(
-                pair.version().copy(alloc)?,
-                copy_lease(alloc, lease)?,
-                t,
-            ))?;
+            let version = pair.version().copy(alloc)?;
+            carried.push(Pair::new(version, copy_lease(alloc, lease)?, t))?;
         }
     }
     Ok(carried)

@@ -92,7 +92,16 @@ tally_is c nw se it vr an ex un re go sp rv p1 p2 p3 p4 p5 p6 p7 p8 p9 p10 p11 =
       serial = 0;
       t = 0;
       what = Tally (record {
-        now = p1 i; serial = p2 i; intent = p3 i; version = p4 i; answered = p5 i; expired = p6 i; unsubscribed = p7 i;
-        replaced = p8 i; gone = p9 i; spent = p10 i; revoked = p11 i;
+        now = p1 i;
+        serial = p2 i;
+        intent = p3 i;
+        version = p4 i;
+        answered = p5 i;
+        expired = p6 i;
+        unsubscribed = p7 i;
+        replaced = p8 i;
+        gone = p9 i;
+        spent = p10 i;
+        revoked = p11 i;
       });
     }

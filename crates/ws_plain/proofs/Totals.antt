@@ -29,6 +29,17 @@ pub account_is : (a : Account) (pe nt le to fe ow an ex un re go sp rv : ℕ) �
     → ◌≡◌ {A = Account} (record { pending = pe; notices = nt; leases = le; topics = to; fetches = fe; owed = ow; answered = an; expired = ex; unsubscribed = un; replaced = re; gone = go; spent = sp; revoked = rv }) a
 account_is a pe nt le to fe ow an ex un re go sp rv p1 p2 p3 p4 p5 p6 p7 p8 p9 p10 p11 p12 p13 =
     λ i. record {
-      pending = p1 i; notices = p2 i; leases = p3 i; topics = p4 i; fetches = p5 i; owed = p6 i; answered = p7 i;
-      expired = p8 i; unsubscribed = p9 i; replaced = p10 i; gone = p11 i; spent = p12 i; revoked = p13 i;
+      pending = p1 i;
+      notices = p2 i;
+      leases = p3 i;
+      topics = p4 i;
+      fetches = p5 i;
+      owed = p6 i;
+      answered = p7 i;
+      expired = p8 i;
+      unsubscribed = p9 i;
+      replaced = p10 i;
+      gone = p11 i;
+      spent = p12 i;
+      revoked = p13 i;
     }

@@ -38,7 +38,11 @@ pub record Found : Type 0 where
 abbrev pub found : List Event → ℕ → Found
 found h t =
     record {
-      pending = pending h; notices = notices h; fetches = fetches h; latest = latest h; owed = owed h t;
+      pending = pending h;
+      notices = notices h;
+      fetches = fetches h;
+      latest = latest h;
+      owed = owed h t;
       leases = kept_leases h t;
     }
 

@@ -6,6 +6,10 @@ use Rattle.ws_plain.specs.Kept.{Found}
 abbrev pub told : Findings → Found
 told f =
     record {
-      pending = f.pending.items; notices = f.notices.items; fetches = f.fetches.items; latest = f.versions.latest.items;
-      owed = f.versions.owed.items; leases = f.leases.items;
+      pending = f.pending.items;
+      notices = f.notices.items;
+      fetches = f.fetches.items;
+      latest = f.versions.latest.items;
+      owed = f.versions.owed.items;
+      leases = f.leases.items;
     }

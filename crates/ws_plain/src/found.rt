@@ -83,11 +83,7 @@ fn numbers(alloc: Global, leases: &[Lease]) -> Result<Vec<u64>, NoMemory>
     Ok(numbers)
 }
 
-fn with_notice(
-    alloc: Global,
-    notices: &[Intent],
-    leases: &[Lease],
-) -> Result<Vec<u64>, NoMemory>
+fn with_notice(alloc: Global, notices: &[Intent], leases: &[Lease]) -> Result<Vec<u64>, NoMemory>
     ensures { IfOk result (λ v. v.items ≡ numbers (filter (λ l. list_any (λ i. i.n == l.intent.n) notices.now) leases.now)) }
 {
     let mut noticed = Vec::new(alloc);

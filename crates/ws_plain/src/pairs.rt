@@ -16,12 +16,7 @@ use std::alloc::Global;
 use ws_model::{Event, Fate, Lease, NoMemory, Version, What};
 
 // A version is owed to each live lease of its topic.
-fn fetched(
-    alloc: Global,
-    t: u64,
-    version: &Version,
-    live: &[Lease],
-) -> Result<Vec<Pair>, NoMemory>
+fn fetched(alloc: Global, t: u64, version: &Version, live: &[Lease]) -> Result<Vec<Pair>, NoMemory>
     ensures { IfOk result (λ v. v.items ≡ map (λ l. pair t version.now l) (filter (λ l. bytes_eq l.intent.topic version.now.topic) live.now)) }
 {
     let mut pairs = Vec::new(alloc);

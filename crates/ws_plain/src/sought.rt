@@ -113,7 +113,8 @@ impl Sought<'_> {
             Sought::Confirmed(n) => matches!(what, What::Confirmed { n: m, .. } if m == n),
             Sought::Done(version, lease) => is_done(*version, *lease, what),
             Sought::Missed(version, lease) => is_missed(*version, *lease, what),
-            Sought::Ping(topic) => matches!(what, What::Pinged { topic: of } if of.as_slice() == *topic),
+            Sought::Ping(topic) =>
+                matches!(what, What::Pinged { topic: of } if of.as_slice() == *topic),
             Sought::Unfetched(topic) => {
                 matches!(what, What::Unfetched { topic: of, .. } if of.as_slice() == *topic)
             }

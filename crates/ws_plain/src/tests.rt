@@ -2,11 +2,14 @@ use crate::{account, due, fate, keep, live, notices, pending};
 use std::alloc::Global;
 use std::test::Fail;
 use ws_model::{
-    Account, Alg, Bytes, Cause, Event, Fate, How, Intent, Mode, NoMemory, Tally, Version, What, Work,
+    Account, Alg, Bytes, Cause, Event, Fate, How, Intent, Mode, NoMemory, Tally, Version, What,
+    Work,
 };
 
 const TOPIC: &str = "http://pub.example/x";
+
 const CALLBACK: &str = "http://sub.example/cb";
+
 const OTHER_CALLBACK: &str = "http://sub.example/cc";
 
 fn bytes(alloc: Global, text: &str) -> Result<Bytes, NoMemory> {
@@ -72,13 +75,19 @@ fn renewal_carries_owed_push(rt: HostRuntime) -> Result<(), Fail> {
     happen(&mut events, 4, 2000, fetched(alloc, 1, 3)?)?;
     happen(&mut events, 5, 2000, missed(1, 1))?;
     happen(&mut events, 6, 2010, missed(1, 1))?;
-    let tried = Some(Fate::Owed { tries: 2, next: 2040 });
+    let tried = Some(Fate::Owed {
+        tries: 2,
+        next: 2040,
+    });
     assert_eq!(rt; fate(alloc, &events, 1, 1, 2040)?, tried);
     assert_eq!(rt; due(alloc, &events, 2039, &[])?.len(), 0);
     happen(&mut events, 7, 2041, asked(alloc, 2, CALLBACK, 864_000)?)?;
     assert_eq!(rt; pending(alloc, &events)?.len(), 1);
     happen(&mut events, 8, 2042, What::Confirmed { n: 2, sent: 2041 })?;
-    let anew = Some(Fate::Owed { tries: 0, next: 2042 });
+    let anew = Some(Fate::Owed {
+        tries: 0,
+        next: 2042,
+    });
     assert_eq!(rt; fate(alloc, &events, 1, 2, 2042)?, anew);
     let replaced = Some(Fate::Ended(Cause::Replaced));
     assert_eq!(rt; fate(alloc, &events, 1, 1, 2042)?, replaced);
@@ -107,12 +116,18 @@ fn eight_misses_spend(rt: HostRuntime) -> Result<(), Fail> {
     }
     assert_eq!(rt; due(alloc, &events, 16_699, &[])?.len(), 0);
     let lower = [Work::Push { ver: 1, lease: 1 }];
-    assert_eq!(rt; due(alloc, &events, 16_700, &[])?.as_slice(), lower.as_slice());
+    assert_eq!(rt;
+        due(alloc, &events, 16_700, &[])?.as_slice(),
+        lower.as_slice()
+    );
     happen(&mut events, 12, 16_700, missed(1, 1))?;
     let spent = Some(Fate::Ended(Cause::Spent));
     assert_eq!(rt; fate(alloc, &events, 1, 1, 16_700)?, spent);
     let higher = [Work::Push { ver: 2, lease: 1 }];
-    assert_eq!(rt; due(alloc, &events, 16_700, &[])?.as_slice(), higher.as_slice());
+    assert_eq!(rt;
+        due(alloc, &events, 16_700, &[])?.as_slice(),
+        higher.as_slice()
+    );
     Ok(())
 }
 
@@ -136,7 +151,10 @@ fn work_in_its_order(rt: HostRuntime) -> Result<(), Fail> {
         Work::Notice { n: 1 },
         Work::Fetch { topic, upto: 6 },
     ];
-    assert_eq!(rt; due(alloc, &events, 1001, &[])?.as_slice(), works.as_slice());
+    assert_eq!(rt;
+        due(alloc, &events, 1001, &[])?.as_slice(),
+        works.as_slice()
+    );
     Ok(())
 }
 
@@ -188,7 +206,12 @@ fn compaction_keeps_counts(rt: HostRuntime) -> Result<(), Fail> {
     happen(&mut events, 6, 1001, fetched(alloc, 1, 5)?)?;
     for lease in 1..=2u64 {
         let how = How::Done;
-        happen(&mut events, 6 + lease, 1001 + lease, What::Pushed { ver: 1, lease, how })?;
+        happen(
+            &mut events,
+            6 + lease,
+            1001 + lease,
+            What::Pushed { ver: 1, lease, how },
+        )?;
     }
     assert_eq!(rt; account(alloc, &events, 2000)?, two_answered());
     let kept = keep(alloc, &events, 2000)?;

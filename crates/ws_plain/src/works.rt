@@ -101,12 +101,7 @@ fn is_behind(owed: &[Pair], pair: &Pair) -> bool
     false
 }
 
-fn due_among(
-    alloc: Global,
-    events: &[Event],
-    t: u64,
-    owed: &[Pair],
-) -> Result<Vec<Pair>, NoMemory>
+fn due_among(alloc: Global, events: &[Event], t: u64, owed: &[Pair]) -> Result<Vec<Pair>, NoMemory>
     ensures { IfOk result (λ v. v.items ≡ filter (λ p. nat_le (next (past events.now) p) t && not (is_behind owed.now p)) owed.now) }
 {
     let mut due = Vec::new(alloc);

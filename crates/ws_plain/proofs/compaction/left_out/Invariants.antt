@@ -13,5 +13,5 @@ invariant-loop-pair l =
     record {
       bound : l.count ≤ l.pair-index;
       count : l.count + length (filter (λ p. alike l.wanted (fate (past l.events) p l.t) && not (keeps_pair (told l.findings) p)) (drop l.pair-index l.pairs))
-        ≡ length (filter (λ p. alike l.wanted (fate (past l.events) p l.t) && not (keeps_pair (told l.findings) p)) l.pairs);
+          ≡ length (filter (λ p. alike l.wanted (fate (past l.events) p l.t) && not (keeps_pair (told l.findings) p)) l.pairs);
     }

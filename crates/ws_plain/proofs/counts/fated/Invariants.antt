@@ -11,5 +11,5 @@ invariant-loop-pair l =
     record {
       bound : l.count ≤ l.pair-index;
       count : l.count + length (filter (λ p. alike l.wanted (fate (past l.events) p l.t)) (drop l.pair-index l.pairs))
-        ≡ length (filter (λ p. alike l.wanted (fate (past l.events) p l.t)) l.pairs);
+          ≡ length (filter (λ p. alike l.wanted (fate (past l.events) p l.t)) l.pairs);
     }

@@ -9,11 +9,11 @@ pub loop-intent-preserved : goal.loop-intent-preserved
 loop-intent-preserved c =
     let test = is_owed_notice (past c.args.events.now) in
     elim c.if-is_owed_notice_number.branch [
-      then-is_owed_notice_number+in_ok-copy+in_ok-push w ↦
-        filter_taken test _ _ c.intent-item.result c.loop-intent.owed.items _ (omega arith) c.intent-item.is
-        (sym c.is_owed_notice_number.ensures ∙ w.if-is_owed_notice_number.true) c.loop-intent.invariant
-        (ap (λ v. v.items) w.owed-is ∙ w.in_ok-push.ensures.items ∙ ap (λ y. c.loop-intent.owed.items ++ y ∷ []) w.in_ok-copy.ensures)
-    | else-is_owed_notice_number w ↦
-        filter_left test _ _ c.intent-item.result c.loop-intent.owed.items _ (omega arith) c.intent-item.is
-        (sym c.is_owed_notice_number.ensures ∙ w.if-is_owed_notice_number.false) c.loop-intent.invariant (ap (λ v. v.items) w.owed-is)
+      | then-is_owed_notice_number+in_ok-copy+in_ok-push w ↦
+          filter_taken test _ _ c.intent-item.result c.loop-intent.owed.items _ (omega arith) c.intent-item.is
+          (sym c.is_owed_notice_number.ensures ∙ w.if-is_owed_notice_number.true) c.loop-intent.invariant
+          (ap (λ v. v.items) w.owed-is ∙ w.in_ok-push.ensures.items ∙ ap (λ y. c.loop-intent.owed.items ++ y ∷ []) w.in_ok-copy.ensures)
+      | else-is_owed_notice_number w ↦
+          filter_left test _ _ c.intent-item.result c.loop-intent.owed.items _ (omega arith) c.intent-item.is
+          (sym c.is_owed_notice_number.ensures ∙ w.if-is_owed_notice_number.false) c.loop-intent.invariant (ap (λ v. v.items) w.owed-is)
     ]

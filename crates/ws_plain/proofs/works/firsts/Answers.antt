@@ -11,11 +11,11 @@ pub loop-intent-preserved : goal.loop-intent-preserved
 loop-intent-preserved c =
     let test : Intent → Bool = λ i. not (list_any (λ j. nat_lt j.n i.n && same_pair i j) c.args.pending.now) in
     elim c.if-is_first.branch [
-      then-is_first+in_ok-copy+in_ok-push w ↦
-        filter_taken test _ _ c.intent-item.result c.loop-intent.firsts.items _ (omega arith) c.intent-item.is
-        (sym c.is_first.ensures ∙ w.if-is_first.true) c.loop-intent.invariant
-        (ap (λ v. v.items) w.firsts-is ∙ w.in_ok-push.ensures.items ∙ ap (λ y. c.loop-intent.firsts.items ++ y ∷ []) w.in_ok-copy.ensures)
-    | else-is_first w ↦
-        filter_left test _ _ c.intent-item.result c.loop-intent.firsts.items _ (omega arith) c.intent-item.is
-        (sym c.is_first.ensures ∙ w.if-is_first.false) c.loop-intent.invariant (ap (λ v. v.items) w.firsts-is)
+      | then-is_first+in_ok-copy+in_ok-push w ↦
+          filter_taken test _ _ c.intent-item.result c.loop-intent.firsts.items _ (omega arith) c.intent-item.is
+          (sym c.is_first.ensures ∙ w.if-is_first.true) c.loop-intent.invariant
+          (ap (λ v. v.items) w.firsts-is ∙ w.in_ok-push.ensures.items ∙ ap (λ y. c.loop-intent.firsts.items ++ y ∷ []) w.in_ok-copy.ensures)
+      | else-is_first w ↦
+          filter_left test _ _ c.intent-item.result c.loop-intent.firsts.items _ (omega arith) c.intent-item.is
+          (sym c.is_first.ensures ∙ w.if-is_first.false) c.loop-intent.invariant (ap (λ v. v.items) w.firsts-is)
     ]

@@ -1,0 +1,4 @@
+pub mod Index
+pub mod Table
+pub mod Indexed
+pub mod Stands

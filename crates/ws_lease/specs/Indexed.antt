@@ -15,12 +15,12 @@ abbrev pub end_of : Lease → ℕ
 end_of l = min (expiry l) (2 ^ 64 - 1)
 
 -- by end, then by number
-abbrev pub by_end : ℕ × ℕ → ℕ × ℕ → Ordering
-by_end x y = ordering_then (nat_cmp x.0 y.0) (nat_cmp x.1 y.1)
+abbrev pub end_order : ℕ × ℕ → ℕ × ℕ → Ordering
+end_order x y = ordering_then (nat_cmp x.0 y.0) (nat_cmp x.1 y.1)
 
 -- whether the number stands at this end
 abbrev pub has_end : BTreeSet (ℕ × ℕ) → ℕ → ℕ → Bool
-has_end ends x n = contains by_end ends (x, n)
+has_end ends x n = contains end_order ends (x, n)
 
 -- the end of a lease, where it is of this topic
 abbrev pub end_in : List ℕ → Option Lease → Option ℕ

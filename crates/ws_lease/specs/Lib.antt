@@ -2,3 +2,4 @@ pub mod Index
 pub mod Table
 pub mod Indexed
 pub mod Stands
+pub mod Unexpired

@@ -1,10 +1,14 @@
 // The leases by their topics: of each topic the numbers by callback, and the ends by number.
 ghost use Rattle.std.specs.Prelude.{◌≡◌, ◌&&◌, List, ℕ, IfOk, OnOk, OnErr, Some, None, cond, bytes_eq, ◌==◌};
 ghost use Rattle.std.specs.Bool.{OnTrue};
+ghost use Rattle.std.specs.List.Sorted.{IsStrictlySortedBy};
+ghost use Rattle.std.specs.Map.{keys_of};
+ghost use Rattle.std.specs.Ordering.{nat_cmp};
 ghost use Rattle.ws_lease.specs.Index.{callback_at, end_at, pair_at, topic_end_at, is_it, IsWithoutLeases};
 
 use std::alloc::Global;
 use std::collections::BTreeMap;
+use std::collections::btree_map::Iter;
 use ws_model::NoMemory;
 
 /// The leases of one topic: the number at each callback, and the end of each number.
@@ -58,6 +62,14 @@ impl OfTopic {
     {
         let _ = self.by_callback.remove(callback);
         let _ = self.ends.remove(&n);
+    }
+
+    /// The ends by number, the numbers rising.
+    pub(crate) fn ends(&self) -> Iter<'_, u64, u64>
+        ensures rest { result ≡ self.now.ends.entries }
+        ensures ordered { IsStrictlySortedBy nat_cmp (keys_of self.now.ends.entries) }
+    {
+        self.ends.iter()
     }
 
     fn is_empty(&self) -> bool

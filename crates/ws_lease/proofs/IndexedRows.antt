@@ -378,3 +378,20 @@ module _ (old new : Rows) (pairs pairs' : List ℕ → List ℕ → Option ℕ) 
 
   pub number_after : (q : ℕ) → lease_at q new ≡ cond (l.intent.n == q) (Some l) (unless_pair l (lease_at q old))
   number_after q = rows q ∙ number_here q _ refl _ refl
+
+-- the number that is replaced is looked up in the old rows as in those with the new lease
+pub still_live_without : (old mid : Rows) (pairs : List ℕ → List ℕ → Option ℕ) (topics : List ℕ → ℕ → Option ℕ) (ends : ℕ → ℕ → Bool) (l : Lease) (o : Option ℕ) (t : ℕ)
+    → IsIndexed old pairs topics ends → lease_at l.intent.n old ≡ None → pairs l.intent.topic l.intent.callback ≡ o
+    → ((q : ℕ) → lease_at q mid ≡ cond (l.intent.n == q) (Some l) (lease_at q old)) → still_live t mid o ≡ still_live t old o
+still_live_without old mid pairs topics ends l None t i was before inserted = refl
+still_live_without old mid pairs topics ends l (Some m) t i was before inserted =
+    ap (λ z. cond (is_live_at t z) (Some m) None) (inserted m ∙ ap (λ b. cond b (Some l) (lease_at m old)) apart)
+  where
+    there : IsSomeAnd (lease_at m old) (IsPair l.intent.topic l.intent.callback)
+    there = at_some (λ y. IsSomeAnd (lease_at y old) (IsPair l.intent.topic l.intent.callback)) (pairs l.intent.topic l.intent.callback) m before (i.found _ _)
+
+    none : IsSomeAnd {T = Lease} None (IsPair l.intent.topic l.intent.callback) → ⊥
+    none x = elim x [ ]
+
+    apart : (l.intent.n == m) ≡ false
+    apart = false_from_ne_true _ (λ r. none (subst (λ z. IsSomeAnd z (IsPair l.intent.topic l.intent.callback)) (ap (λ z. lease_at z old) (sym (eqb-true l.intent.n m r)) ∙ was) there))

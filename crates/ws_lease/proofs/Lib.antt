@@ -4,3 +4,6 @@ pub mod Ends
 pub mod SortedEntries
 pub mod Standing
 pub mod Answering
+pub mod Count
+pub mod Firsts
+pub mod WhichEvents

@@ -255,7 +255,7 @@ end_stands old new n cause is look h e since s le l ends = stands_after new e h 
 
 -- ---- an event that makes a lease
 
-bytes_turned : (a b : List ℕ) → bytes_eq a b ≡ bytes_eq b a
+pub bytes_turned : (a b : List ℕ) → bytes_eq a b ≡ bytes_eq b a
 bytes_turned a b = by (bytes_eq a b) refl (bytes_eq b a) refl
   where
     by : (x : Bool) → bytes_eq a b ≡ x → (y : Bool) → bytes_eq b a ≡ y → x ≡ y

@@ -1,5 +1,5 @@
 -- What holds of the rows and the indexes of a table together.
-use Rattle.std.specs.Prelude.{◌≡◌, ℕ, ◌-◌, ◌^◌, min, Bool, true, false, cond, List, Option, Some, None, IfSome, IsSomeAnd, bytes_eq, nat_lt, ◌==◌}
+use Rattle.std.specs.Prelude.{◌≡◌, ℕ, ◌-◌, ◌^◌, ◌<◌, ◌≤◌, min, Bool, true, false, cond, List, Option, Some, None, IfSome, IsSomeAnd, bytes_eq, nat_lt, ◌==◌}
 use Rattle.std.specs.Ordering.{nat_cmp, ordering_then}
 use Rattle.std.specs.declared.cmp.Ordering.{Ordering}
 use Rattle.std.specs.Map.{keys_of}
@@ -52,3 +52,8 @@ is_live_at t (Some l) = nat_lt t (expiry l)
 abbrev pub still_live : ℕ → Rows → Option ℕ → Option ℕ
 still_live t rows None = None
 still_live t rows (Some n) = cond (is_live_at t (lease_at n rows)) (Some n) None
+
+-- the number that ends first, where it ends by t
+abbrev pub FirstEnd : ℕ → (ℕ → ℕ → Bool) → Option ℕ → Type 0
+FirstEnd t ends None = (x n : ℕ) → ends x n ≡ true → t < x
+FirstEnd t ends (Some n) = (x : ℕ) × (x ≤ t) × (ends x n ≡ true) × ((y m : ℕ) → ends y m ≡ true → x ≤ y)

@@ -6,7 +6,7 @@ ghost use Rattle.std.specs.Ordering.{nat_cmp};
 ghost use Rattle.ws_model.specs.Leases.{expiry};
 ghost use Rattle.ws_lease.specs.Index.{pair_at, topic_end_at, is_it};
 ghost use Rattle.ws_lease.specs.Table.{lease_at, without_one};
-ghost use Rattle.ws_lease.specs.Indexed.{end_of, end_order, has_end, ends_at, still_live};
+ghost use Rattle.ws_lease.specs.Indexed.{end_of, end_order, has_end, ends_at, still_live, FirstEnd};
 
 use crate::topic_index::{self, TopicIndex};
 use std::alloc::Global;
@@ -87,6 +87,28 @@ pub(crate) fn take_out(
     } else {
         None
     }
+}
+
+/// The number, where its lease is there and hasn't expired at `t`.
+pub(crate) fn still_live(by_number: &BTreeMap<u64, Lease>, number: Option<u64>, t: u64) -> Option<u64>
+    requires { t < 2 ^ 48 }
+    ensures { result ≡ still_live t by_number.now.entries number }
+{
+    let n = number?;
+    let lease = by_number.get(&n)?;
+    if is_unexpired(lease, t) {
+        Some(n)
+    } else {
+        None
+    }
+}
+
+/// The number that ends first, where it ends by `t`.
+pub(crate) fn first_expired(by_end: &Ends, t: u64) -> Option<u64>
+    ensures { FirstEnd t (has_end by_end.now) result }
+{
+    let (end, n) = *by_end.first()?;
+    if end <= t { Some(n) } else { None }
 }
 
 /// How many ends are after `t`.

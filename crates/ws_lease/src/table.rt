@@ -88,8 +88,8 @@ impl Leases {
         ensures stands { (h : List Event) (since : ℕ) → Legal h → StandsFor h since self.now → since ≤ t →
             result ≡ option_map (λ l. l.intent.n) (live_lease_of h t topic.now callback.now) }
     {
-        let n = topic_index::number_of(&self.by_topic, topic, callback)?;
-        if self.live(n, t) { Some(n) } else { None }
+        let n = topic_index::number_of(&self.by_topic, topic, callback);
+        rows::still_live(&self.by_number, n, t)
     }
 
     /// The numbers of the leases of a topic that are live at `t`, rising.
@@ -174,10 +174,7 @@ impl Leases {
         ensures value { TakesExpired t self.old result self.new }
         ensures stands { (h : List Event) (since : ℕ) → StandsFor h since self.old → StandsFor h (max since t) self.new }
     {
-        let (end, n) = *self.by_end.first()?;
-        if t < end {
-            return None;
-        }
+        let n = rows::first_expired(&self.by_end, t)?;
         self.take(n)
     }
 

@@ -29,7 +29,10 @@ impl<'a> LiveOf<'a> {
     pub(crate) fn of(ends: Iter<'a, u64, u64>, t: u64) -> LiveOf<'a>
         ensures { result ≡ unexpired_numbers t ends.entry }
     {
-        LiveOf { left: Some(ends), t }
+        LiveOf {
+            left: Some(ends),
+            t,
+        }
     }
 
     /// No numbers.

@@ -90,7 +90,11 @@ pub(crate) fn take_out(
 }
 
 /// The number, where its lease is there and hasn't expired at `t`.
-pub(crate) fn still_live(by_number: &BTreeMap<u64, Lease>, number: Option<u64>, t: u64) -> Option<u64>
+pub(crate) fn still_live(
+    by_number: &BTreeMap<u64, Lease>,
+    number: Option<u64>,
+    t: u64,
+) -> Option<u64>
     requires { t < 2 ^ 48 }
     ensures { result ≡ still_live t by_number.now.entries number }
 {

@@ -146,12 +146,7 @@ impl Leases {
                 let _ = self.by_number.remove(&n);
                 Err(fault)
             }
-            Ok(before) => Ok(rows::take_out(
-                &mut self.by_number,
-                &mut self.by_end,
-                before,
-                t,
-            )),
+            Ok(before) => Ok(rows::take_out(&mut self.by_number, &mut self.by_end, before, t)),
         }
     }
 

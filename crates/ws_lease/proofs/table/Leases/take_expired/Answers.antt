@@ -16,7 +16,7 @@ returns-in_err-n-clause-value c =
 pub returns-clause-value : goal.returns-clause-value
 returns-clause-value c =
     let r : IsFirstRow c.args.t c.in_ok-n.n c.args.self.now =
-        subst (IsFirstRow c.args.t c.in_ok-n.n) c.self.view_is
-        (first_expired c.self.inside.by_number (pair_at c.self.inside.by_topic) (topic_end_at c.self.inside.by_topic) (has_end c.self.inside.by_end) c.self.invariant c.args.t c.in_ok-n.n c.requires c.in_ok-n.ensures) in
+    subst (IsFirstRow c.args.t c.in_ok-n.n) c.self.view_is
+    (first_expired c.self.inside.by_number (pair_at c.self.inside.by_topic) (topic_end_at c.self.inside.by_topic) (has_end c.self.inside.by_end) c.self.invariant c.args.t c.in_ok-n.n c.requires c.in_ok-n.ensures) in
     subst (λ o. TakesExpired c.args.t c.args.self.now o c.take.new.self) (sym (c.take.ensures.taken ∙ r.here))
     (c.take.ensures.value ∙ ap (λ n. without n c.args.self.now) (sym r.number), r.first)

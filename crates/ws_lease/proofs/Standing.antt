@@ -31,7 +31,7 @@ use Rattle.ws_laws.proofs.ListLaws.{all_weaker, all_filter, all_find, all_from, 
 use Rattle.ws_laws.proofs.Step.{live_step, IsFresh, new_fresh}
 use Rattle.ws_lease.specs.Index.{is_it}
 use Rattle.ws_lease.specs.Table.{Rows, lease_at, live_at, unexpired, unless_pair, is_end}
-use Rattle.ws_lease.specs.Stands.{StandsFor, Makes, Ends, Leaves, is_numbered, live_numbered, StandsOn, StandsLater}
+use Rattle.ws_lease.specs.Stands.{StandsFor, MakesLease, EndsLease, LeavesLeases, is_numbered, live_numbered, StandsOn, StandsLater}
 
 -- ---- leases of different numbers
 
@@ -147,7 +147,7 @@ unexpired_later s t le (Some x) = by (nat_lt s (expiry x)) refl
     by false q = ap (λ b. cond b (Some x) None) (later (expiry x) q)
 
 pub stands_later : StandsLater
-stands_later rows h since later s le = record { begun = let b = s.begun in omega arith; shows = λ t n k. s.shows t n (omega arith); told = s.told }
+stands_later rows h since later s le = record { begun = let b = s.begun in omega arith; shows = λ t n k. s.shows t n (omega arith); confirmed = s.confirmed }
 
 -- what a table shows at the moment of an event and after it
 pub stands_after : (rows : Rows) (e : Event) (h : List Event) → Legal (e ∷ h)
@@ -161,7 +161,7 @@ stands_after rows e h l f told =
           f t n le
           ∙ sym (find_where (λ y. nat_lt t (expiry y)) n (live (e ∷ h) e.t) (live_apart (e ∷ h) l e.t))
           ∙ ap (find (is_numbered n)) (sym (live_later (e ∷ h) e.t t le));
-      told = told;
+      confirmed = told;
     }
 
 told_later : (e : Event) (h : List Event) (n : ℕ) (o : Option Lease) → IfSome o (λ l. has (is_confirmed n) h ≡ true) → IfSome o (λ l. has (is_confirmed n) (e ∷ h) ≡ true)
@@ -171,7 +171,7 @@ told_later e h n (Some l) k = or_right (is_confirmed n e.what) (has (is_confirme
 -- ---- an event that leaves all leases
 
 pub stands_on : StandsOn
-stands_on rows h e since s le l leaves = stands_after rows e h l shown (λ n. told_later e h n (lease_at n rows) (s.told n))
+stands_on rows h e since s le l leaves = stands_after rows e h l shown (λ n. told_later e h n (lease_at n rows) (s.confirmed n))
   where
     kept : live (e ∷ h) e.t ≡ live h e.t
     kept =
@@ -221,7 +221,7 @@ others_live (Revoked m reason) o l x n q cause ls a f g ne e = by (m == l.intent
 others_live _ o l x n q cause ls a f g ne e = refl
 
 pub end_stands : (old new : Rows) (n : ℕ) (cause : Cause) → is_end cause ≡ true → ((q : ℕ) → lease_at q new ≡ cond (n == q) None (lease_at q old))
-    → (h : List Event) (e : Event) (since : ℕ) → StandsFor h since old → since ≤ e.t → Legal (e ∷ h) → Ends e h n cause → StandsFor (e ∷ h) e.t new
+    → (h : List Event) (e : Event) (since : ℕ) → StandsFor h since old → since ≤ e.t → Legal (e ∷ h) → EndsLease e h n cause → StandsFor (e ∷ h) e.t new
 end_stands old new n cause is look h e since s le l ends = stands_after new e h l shown (λ q. subst (λ o. IfSome o (λ _. has (is_confirmed q) (e ∷ h) ≡ true)) (sym (look q)) (told_less q (n == q)))
   where
     on : Lease → Bool
@@ -229,7 +229,7 @@ end_stands old new n cause is look h e since s le l ends = stands_after new e h 
 
     told_less : (q : ℕ) (c : Bool) → IfSome (cond c None (lease_at q old)) (λ _. has (is_confirmed q) (e ∷ h) ≡ true)
     told_less q true = tt
-    told_less q false = told_later e h q (lease_at q old) (s.told q)
+    told_less q false = told_later e h q (lease_at q old) (s.confirmed q)
 
     left : live (e ∷ h) e.t ≡ filter on (live h e.t)
     left = live_step e h l.1 ∙ ap (λ ls. ls ++ filter on (live h e.t)) (makes_none e.what (confirmed_intent e.what h) ends.lease cause is ends.by)
@@ -281,7 +281,7 @@ one_left l n sent s t le (Some x) = ap (λ b. unexpired t (cond b None (Some x))
     by false p true q = rw p
     by false p false q = ap (λ b. cond b (Some x) None) (later (expiry x) q)
 
-made : (e : Event) (h : List Event) (x : Lease) → Legal (e ∷ h) → Makes e h x → is_on x.intent.mode ≡ true
+made : (e : Event) (h : List Event) (x : Lease) → Legal (e ∷ h) → MakesLease e h x → is_on x.intent.mode ≡ true
     → live (e ∷ h) e.t ≡ x ∷ filter (lives_on (Confirmed x.intent.n x.sent) (Some x.intent)) (live h e.t)
 made e h x l m on =
     live_step e h l.1
@@ -289,7 +289,7 @@ made e h x l m on =
     ∙ ap (λ b. cond b (record { intent = x.intent; sent = x.sent } ∷ []) [] ++ filter (lives_on (Confirmed x.intent.n x.sent) (Some x.intent)) (live h e.t)) on
 
 pub confirm_stands : (old new : Rows) (x : Lease) → is_on x.intent.mode ≡ true → ((q : ℕ) → lease_at q new ≡ cond (x.intent.n == q) (Some x) (unless_pair x (lease_at q old)))
-    → (h : List Event) (e : Event) (since : ℕ) → StandsFor h since old → since ≤ e.t → Legal (e ∷ h) → Makes e h x → StandsFor (e ∷ h) e.t new
+    → (h : List Event) (e : Event) (since : ℕ) → StandsFor h since old → since ≤ e.t → Legal (e ∷ h) → MakesLease e h x → StandsFor (e ∷ h) e.t new
 confirm_stands old new x is_on look h e since s le l m = stands_after new e h l shown (λ q. subst (λ o. IfSome o (λ _. has (is_confirmed q) (e ∷ h) ≡ true)) (sym (look q)) (told_more q (x.intent.n == q) refl))
   where
     on : Lease → Bool
@@ -305,7 +305,7 @@ confirm_stands old new x is_on look h e since s le l m = stands_after new e h l 
 
     told_more : (q : ℕ) (c : Bool) → (x.intent.n == q) ≡ c → IfSome (cond c (Some x) (unless_pair x (lease_at q old))) (λ _. has (is_confirmed q) (e ∷ h) ≡ true)
     told_more q true k = or_left (is_confirmed q e.what) (has (is_confirmed q) h) (ap (is_confirmed q) m.confirms ∙ k)
-    told_more q false k = told_left q (lease_at q old) (told_later e h q (lease_at q old) (s.told q))
+    told_more q false k = told_left q (lease_at q old) (told_later e h q (lease_at q old) (s.confirmed q))
 
     by : (t q : ℕ) → e.t ≤ t → (b : Bool) (o : Option Lease) → unexpired e.t o ≡ find (is_numbered q) (live h e.t)
         → unexpired t (cond b (Some x) (unless_pair x o)) ≡ when (λ y. nat_lt t (expiry y)) (cond b (Some x) (find (is_numbered q) (filter on (live h e.t))))
@@ -329,12 +329,12 @@ taken_stands old new l n t was expired look h since s =
     record {
       begun = let b = s.begun in omega arith;
       shows = λ u q le. ap (unexpired u) (look q) ∙ by u q le (n == q) refl ∙ s.shows u q (omega arith);
-      told = λ q. subst (λ o. IfSome o (λ _. has (is_confirmed q) h ≡ true)) (sym (look q)) (told_less q (n == q));
+      confirmed = λ q. subst (λ o. IfSome o (λ _. has (is_confirmed q) h ≡ true)) (sym (look q)) (told_less q (n == q));
     }
   where
     told_less : (q : ℕ) (c : Bool) → IfSome (cond c None (lease_at q old)) (λ _. has (is_confirmed q) h ≡ true)
     told_less q true = tt
-    told_less q false = s.told q
+    told_less q false = s.confirmed q
 
     gone : (u x : ℕ) → x ≤ t → max since t ≤ u → nat_lt u x ≡ false
     gone u x k le = grind (arith, nat_tests)

@@ -28,7 +28,7 @@ use Rattle.ws_laws.proofs.Known.{allowed}
 use Rattle.ws_laws.proofs.ListLaws.{all_filter_with, all_find, all_from, all_weaker, any_then}
 use Rattle.ws_laws.proofs.Step.{IsFresh, new_fresh, IsConfirming, confirms}
 use Rattle.ws_lease.specs.Table.{Rows, lease_at, live_at}
-use Rattle.ws_lease.specs.Stands.{StandsFor, Makes, Ends, Leaves, is_numbered, touches_leases, is_gone, GoneEnds, RevokedEnds, UnsubscriptionEnds, UnsubscriptionLeaves, OthersLeave, NewIsNotHeld, EndedIsLive}
+use Rattle.ws_lease.specs.Stands.{StandsFor, MakesLease, EndsLease, LeavesLeases, is_numbered, touches_leases, is_gone, GoneEnds, RevokedEnds, UnsubscriptionEnds, UnsubscriptionLeaves, OthersLeave, NewIsNotHeld, EndedIsLive}
 use Rattle.ws_lease.proofs.Standing.{found_by_number, live_apart, pair_turned}
 
 itself : (n : ℕ) → (n == n) ≡ true
@@ -38,7 +38,7 @@ itself n = grind (arith, nat_tests)
 
 pub gone_ends : GoneEnds
 gone_ends h e v n l is =
-    any_then (λ (p : Pair). IsToldPair h p × (is_owed (fate h p e.t) ≡ true)) (λ p. (p.version.ver == v) && (p.lease.intent.n == n)) (Ends e h n LeaseGone)
+    any_then (λ (p : Pair). IsToldPair h p × (is_owed (fate h p e.t) ≡ true)) (λ p. (p.version.ver == v) && (p.lease.intent.n == n)) (EndsLease e h n LeaseGone)
     (λ p a k.
     let number : p.lease.intent.n ≡ n = eqb-true p.lease.intent.n n (and_parts (p.version.ver == v) (p.lease.intent.n == n) k).1 in
     record {
@@ -60,7 +60,7 @@ found_any {X = X} q G xs k f = by (find q xs) refl (some_found q xs ∙ k)
 
 pub revoked_ends : RevokedEnds
 revoked_ends h e n reason l is =
-    found_any (is_numbered n) (Ends e h n LeaseRevoked) (live h e.t) (subst (λ w. is_allowed w e.t h ≡ true) is (allowed h e l.1))
+    found_any (is_numbered n) (EndsLease e h n LeaseRevoked) (live h e.t) (subst (λ w. is_allowed w e.t h ≡ true) is (allowed h e l.1))
     (λ x k.
     record {
       lease = x;
@@ -133,7 +133,7 @@ pub ended_is_live : EndedIsLive
 ended_is_live rows h e since n cause s le ends = (ends.lease, s.shows e.t n le ∙ ends.lives)
 
 pub new_is_not_held : NewIsNotHeld
-new_is_not_held rows h e since x s l m on = (none (lease_at x.intent.n rows) (s.told x.intent.n), sent)
+new_is_not_held rows h e since x s l m on = (none (lease_at x.intent.n rows) (s.confirmed x.intent.n), sent)
   where
     is_allowed_there : is_allowed (Confirmed x.intent.n x.sent) e.t h ≡ true
     is_allowed_there = subst (λ w. is_allowed w e.t h ≡ true) m.confirms (allowed h e l.1)

@@ -7,7 +7,7 @@ ghost use Rattle.ws_model.specs.Leases.{is_on, live};
 ghost use Rattle.ws_model.specs.Legal.{Legal};
 ghost use Rattle.ws_model.specs.Revocation.{live_lease_of};
 ghost use Rattle.ws_lease.specs.Table.{lease_at, live_at, live_of_pair, live_numbers, live_rows, number_of_pair, with_lease, without, without_one, unless_pair, is_end, TakesExpired};
-ghost use Rattle.ws_lease.specs.Stands.{StandsFor, AreNumbersOf, Makes, Ends, is_numbered, live_numbered};
+ghost use Rattle.ws_lease.specs.Stands.{StandsFor, AreNumbersOf, MakesLease, EndsLease, is_numbered, live_numbered};
 
 use crate::live_of::LiveOf;
 use crate::rows::{self, Ends};
@@ -124,7 +124,7 @@ impl Leases {
         ensures replaced { IfOk result (λ o. o ≡ live_of_pair lease.intent.topic lease.intent.callback t self.old) }
         ensures value { OnOk result (self.new ≡ without_one (number_of_pair lease.intent.topic lease.intent.callback self.old) (with_lease lease self.old)) }
         ensures looks { OnOk result ((q : ℕ) → lease_at q self.new ≡ cond (lease.intent.n == q) (Some lease) (unless_pair lease (lease_at q self.old))) }
-        ensures stands { OnOk result ((h : List Event) (e : Event) (since : ℕ) → StandsFor h since self.old → since ≤ e.t → Legal (e ∷ h) → Makes e h lease →
+        ensures stands { OnOk result ((h : List Event) (e : Event) (since : ℕ) → StandsFor h since self.old → since ≤ e.t → Legal (e ∷ h) → MakesLease e h lease →
             StandsFor (e ∷ h) e.t self.new) }
         ensures err { OnErr result (self.new ≡ self.old) }
     {
@@ -157,7 +157,7 @@ impl Leases {
         requires cause { is_end cause ≡ true }
         ensures value { self.new ≡ without n self.old }
         ensures looks { (q : ℕ) → lease_at q self.new ≡ cond (n == q) None (lease_at q self.old) }
-        ensures stands { (h : List Event) (e : Event) (since : ℕ) → StandsFor h since self.old → since ≤ e.t → Legal (e ∷ h) → Ends e h n cause →
+        ensures stands { (h : List Event) (e : Event) (since : ℕ) → StandsFor h since self.old → since ≤ e.t → Legal (e ∷ h) → EndsLease e h n cause →
             StandsFor (e ∷ h) e.t self.new }
     {
         let _ = self.take(n);

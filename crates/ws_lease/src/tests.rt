@@ -12,8 +12,7 @@ fn put(
     alloc: Global,
     leases: &mut Leases,
     n: u64,
-    topic: &str,
-    callback: &str,
+    pair: (&str, &str),
     sent: u64,
     granted: u32,
     t: u64,
@@ -23,6 +22,7 @@ fn put(
     requires new { (q : ℕ) → n ≤ q → lease_at q leases.old ≡ None }
     ensures rest { OnOk result ((q : ℕ) → n + 1 ≤ q → lease_at q leases.new ≡ None) }
 {
+    let (topic, callback) = pair;
     let lease = Lease {
         intent: Intent {
             n,
@@ -57,17 +57,17 @@ fn end_live(leases: &mut Leases, n: u64, cause: Cause, t: u64) -> bool
 fn lease_measured_from_ticket_and_renewed(rt: HostRuntime) -> Result<(), Fail> {
     let alloc = rt.alloc();
     let mut leases = Leases::empty(alloc);
-    assert_eq!(rt; put(alloc, &mut leases, 1, "t", "c", 1_000, 60, 1_029)?, None);
+    assert_eq!(rt; put(alloc, &mut leases, 1, ("t", "c"), 1_000, 60, 1_029)?, None);
     for (t, live, found, count) in [(1_059, true, Some(1), 1), (1_060, false, None, 0)] {
         assert_eq!(rt; leases.live(1, t), live, "at {t}");
         assert_eq!(rt; leases.find(b"t", b"c", t), found, "at {t}");
         assert_eq!(rt; leases.count(t), count, "at {t}");
     }
-    let renewed = put(alloc, &mut leases, 2, "t", "c", 1_040, 100, 1_042)?;
+    let renewed = put(alloc, &mut leases, 2, ("t", "c"), 1_040, 100, 1_042)?;
     assert_eq!(rt; renewed, Some(1), "the renewed lease");
     assert!(rt; !leases.live(1, 1_042));
     assert_eq!(rt; leases.find(b"t", b"c", 1_139), Some(2));
-    let after = put(alloc, &mut leases, 3, "t", "c", 1_140, 60, 1_141)?;
+    let after = put(alloc, &mut leases, 3, ("t", "c"), 1_140, 60, 1_141)?;
     assert_eq!(rt; after, None, "lease 2 has expired");
     assert_eq!(rt; leases.get(3, 1_199).map(|lease| lease.sent), Some(1_140));
     assert_eq!(rt; leases.take_expired(1_199).map(|lease| lease.sent), None);
@@ -81,10 +81,10 @@ fn lease_measured_from_ticket_and_renewed(rt: HostRuntime) -> Result<(), Fail> {
 fn unsubscribed_gone_and_revoked(rt: HostRuntime) -> Result<(), Fail> {
     let alloc = rt.alloc();
     let mut leases = Leases::empty(alloc);
-    put(alloc, &mut leases, 1, "t", "c", 10, 60, 11)?;
-    put(alloc, &mut leases, 2, "t", "d", 10, 80, 11)?;
-    put(alloc, &mut leases, 3, "u", "e", 10, 90, 11)?;
-    put(alloc, &mut leases, 4, "t", "e", 10, 100, 11)?;
+    put(alloc, &mut leases, 1, ("t", "c"), 10, 60, 11)?;
+    put(alloc, &mut leases, 2, ("t", "d"), 10, 80, 11)?;
+    put(alloc, &mut leases, 3, ("u", "e"), 10, 90, 11)?;
+    put(alloc, &mut leases, 4, ("t", "e"), 10, 100, 11)?;
     let numbers: Vec<u64> = leases.live_of_topic(b"t", 12).collect(alloc)?;
     assert_eq!(rt; numbers.as_slice(), [1, 2, 4].as_slice());
     let numbers: Vec<u64> = leases.live_of_topic(b"t", 75).collect(alloc)?;

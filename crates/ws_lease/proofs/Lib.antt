@@ -1,0 +1,9 @@
+pub mod ByteKeys
+pub mod IndexedRows
+pub mod Ends
+pub mod SortedEntries
+pub mod Standing
+pub mod Answering
+pub mod Count
+pub mod Firsts
+pub mod WhichEvents

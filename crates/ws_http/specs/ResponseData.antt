@@ -31,5 +31,5 @@ IsDataEnd need bytes body end.Wrong =
     (place : ℕ) × (size : ℕ) × (l : Line) × StopsAt need bytes body place size false l × LineNext (drop place bytes) l next.Wrong
 IsDataEnd need bytes body (end.Last total) =
     (place : ℕ) × (size : ℕ) × (used : ℕ) × (l : Line) × StopsAt need bytes body place size false l
-    × LineNext (drop place bytes) l (next.Last used) × (total ≡ place + used)
+    × LineNext (drop place bytes) l (next.Last used) × (total ≡ place + used) × (total ≤ length bytes)
 IsDataEnd need bytes body end.NoMemory = is_full need ≡ true

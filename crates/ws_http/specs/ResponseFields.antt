@@ -1,7 +1,7 @@
 -- What the fields of a response's head say (RFC 9110, sections 5.3 and 8.6; RFC 9112, section 6.3).
-use Rattle.std.specs.Prelude.{ℕ, Bool, true, false, not, ◌&&◌, ◌||◌, if◌then◌else◌, ◌==◌, nat_lt, List, [], ◌∷◌, ◌++◌, Option, Some, None, option_map, codes}
+use Rattle.std.specs.Prelude.{ℕ, ◌-◌, length, get_or, Bool, true, false, not, ◌&&◌, ◌||◌, if◌then◌else◌, ◌==◌, nat_lt, List, [], ◌∷◌, ◌++◌, Option, Some, None, option_map, codes}
 use Rattle.std.specs.List.{flat_map, list_all, slice_split}
-use Rattle.httparse.specs.Grammar.{trim_ows, ResponseHead, status_code}
+use Rattle.httparse.specs.Grammar.{trim_ows, is_ows, ResponseHead, status_code}
 use Rattle.ws_model.specs.declared.reply.Reply.{Reply}
 use Rattle.ws_http.specs.declared.fed.Need.{Need}
 use Rattle.ws_http.specs.declared.fed.Need.TheVariants as need
@@ -55,6 +55,18 @@ all_lengths n (f ∷ fs) = if is_other_length n f then false else all_lengths n 
 abbrev pub until_comma : List ℕ → List ℕ
 until_comma [] = []
 until_comma (b ∷ bs) = if b == 44 then [] else b ∷ until_comma bs
+
+-- whether a space or a tab stands at the place
+abbrev pub has_blank : List ℕ → ℕ → Bool
+has_blank text at = nat_lt at (length text) && is_ows (get_or text at 0)
+
+-- whether a space or a tab stands before the place
+abbrev pub ends_blank : List ℕ → ℕ → Bool
+ends_blank text end = nat_lt 0 end && has_blank text (end - 1)
+
+-- whether a byte other than a comma stands at the place
+abbrev pub goes_on : List ℕ → ℕ → Bool
+goes_on value at = nat_lt at (length value) && not (get_or value at 0 == 44)
 
 -- the number, where each Content-Length is it
 abbrev pub agreed : Option ℕ → List (List ℕ × List ℕ) → Option ℕ

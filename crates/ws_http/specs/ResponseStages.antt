@@ -85,15 +85,24 @@ Ready need raw body (stage.Fixed f total) =
     × (total ≡ f.start + n) × (n ≤ body_limit) × (is_status need ≡ false)
 Ready need raw body (stage.Lasting f) =
     (h : ResponseHead) × HasFinal (front raw) f h × (extent_by h ≡ Some extent.Lasting) × (is_status need ≡ false)
-    × (length (drop f.start raw) ≤ body_limit)
 Ready need raw body (stage.Chunked f place size) =
     (h : ResponseHead) × HasFinal (front raw) f h × (extent_by h ≡ Some extent.Chunked) × (is_status need ≡ false)
     × HasData need (window raw f.start) body place size
 Ready need raw body (stage.Whole f total chunked) =
     (h : ResponseHead) × HasFinal (front raw) f h × (f.start ≤ total) × (chunked ≡ false → total ≤ length raw)
-    × (length (content_of raw body f.start total chunked) ≤ body_limit)
+    × (chunked ≡ true → kept_of need body ≡ body)
 Ready need raw body (stage.Bad reason) = ⊤
 Ready need raw body stage.NoMemory = is_full need ≡ true
+
+-- a body that isn't chunked, or is whole, is within its limit
+abbrev pub Small : List ℕ → List ℕ → ReplyStage → Type 0
+Small raw body (stage.Head at) = ⊤
+Small raw body (stage.Fixed f total) = ⊤
+Small raw body (stage.Lasting f) = length (drop f.start raw) ≤ body_limit
+Small raw body (stage.Chunked f place size) = ⊤
+Small raw body (stage.Whole f total chunked) = length (content_of raw body f.start total chunked) ≤ body_limit
+Small raw body (stage.Bad reason) = ⊤
+Small raw body stage.NoMemory = ⊤
 
 -- the verdict is that of the stage
 abbrev pub Says : Need → List ℕ → List ℕ → ReplyStage → Verdict → Type 0
@@ -153,6 +162,10 @@ stage_at_end came (stage.Whole f total chunked) = stage.Whole f total chunked
 stage_at_end came (stage.Bad reason) = stage.Bad reason
 stage_at_end came stage.NoMemory = stage.NoMemory
 
+-- the stage with the connection ended or not
+abbrev pub stage_closed : Bool → ℕ → ReplyStage → ReplyStage
+stage_closed ended came s = if ended then stage_at_end came s else s
+
 -- ---- what is said
 
 -- what is said with a piece that stands behind so many bytes, where the head wasn't whole before
@@ -211,6 +224,7 @@ pub record IsReplyReader (need : Need) (bytes content : List ℕ) (s : ReplyStag
   pub kept : is_full need ≡ false → room_of need ≤ raw_capacity
   pub held : is_full need ≡ false → 41 ≤ body_capacity
   pub ready : Ready need bytes content s
+  pub small : Small bytes content s
 
 -- The reader was fed these bytes, with the connection's end behind them or not, and stands for the verdict
 -- on them. It keeps all of them until the verdict is final.

@@ -4,7 +4,7 @@ ghost use Rattle.httparse.specs.Grammar.{trim_ows, skip_ows, is_ows};
 ghost use Rattle.httparse.specs.Spans.{header_bytes, IsHeaderWithin};
 ghost use Rattle.std.specs.Prelude.{reverse};
 ghost use Rattle.std.specs.Option.{option_copied};
-ghost use Rattle.ws_http.specs.ResponseFields.{writes, all_write, is_other_length, all_lengths, until_comma, first_length, agreed, is_bodiless, or_empty, response_extent};
+ghost use Rattle.ws_http.specs.ResponseFields.{writes, all_write, is_other_length, all_lengths, until_comma, first_length, agreed, is_bodiless, or_empty, response_extent, has_blank, ends_blank, goes_on};
 
 use crate::head::{all_have, count_named, first_named, is_called, length_of};
 use httparse::spans::HeaderSpan;
@@ -24,15 +24,29 @@ fn is_blank(byte: u8) -> bool
     byte == b' ' || byte == b'\t'
 }
 
+// Whether a space or a tab stands at the place.
+fn has_blank(text: &[u8], at: usize) -> bool
+    ensures { result ≡ has_blank text.now at }
+{
+    at < text.len() && is_blank(text[at])
+}
+
 // The text without the white space in front.
 fn skip_blank(text: &[u8]) -> &[u8]
     ensures { result.now ≡ skip_ows text.now }
 {
     let mut start: usize = 0;
-    'blank: while start < text.len() && is_blank(text[start]) {
+    'blank: while has_blank(text, start) {
         start += 1;
     }
     &text[start..]
+}
+
+// Whether a space or a tab stands before the place.
+fn ends_blank(text: &[u8], end: usize) -> bool
+    ensures { result ≡ ends_blank text.now end }
+{
+    end > 0 && has_blank(text, end - 1)
 }
 
 // The text without the white space behind.
@@ -40,7 +54,7 @@ fn cut_blank(text: &[u8]) -> &[u8]
     ensures { result.now ≡ reverse (skip_ows (reverse text.now)) }
 {
     let mut end: usize = text.len();
-    'blank: while end > 0 && is_blank(text[end - 1]) {
+    'blank: while ends_blank(text, end) {
         end -= 1;
     }
     &text[..end]
@@ -94,12 +108,19 @@ fn all_are_length(buf: &[u8], headers: &[HeaderSpan], number: u64) -> bool
     true
 }
 
+// Whether a byte other than a comma stands at the place.
+fn goes_on(value: &[u8], at: usize) -> bool
+    ensures { result ≡ goes_on value.now at }
+{
+    at < value.len() && value[at] != b','
+}
+
 // The bytes before the first comma.
 fn first_element(value: &[u8]) -> &[u8]
     ensures { result.now ≡ until_comma value.now }
 {
     let mut end: usize = 0;
-    'bytes: while end < value.len() && value[end] != b',' {
+    'bytes: while goes_on(value, end) {
         end += 1;
     }
     &value[..end]

@@ -11,6 +11,7 @@ use crate::Need;
 use crate::extent::value_or_empty;
 use crate::head::{MAX_FIELDS, MAX_HEAD, first_named, is_called};
 use crate::reply_head::{SeenReply, parse_reply};
+use crate::reply_stage::is_status;
 use crate::write::put;
 use httparse::spans::HeaderSpan;
 use std::alloc::Global;
@@ -98,10 +99,13 @@ pub fn build(alloc: Global, need: Need, front: &[u8], content: Bytes) -> Result<
 {
     let mut headers = [HeaderSpan::default(); MAX_FIELDS];
     match parse_reply(front, &mut headers) {
-        SeenReply::Head(spans) => match need {
-            Need::Status => Ok(bare(alloc, spans.code)),
-            _ => told(alloc, spans.code, front, &headers[..spans.headers], content),
-        },
+        SeenReply::Head(spans) => {
+            if is_status(need) {
+                return Ok(bare(alloc, spans.code));
+            }
+            let reply = told(alloc, spans.code, front, &headers[..spans.headers], content)?;
+            Ok(reply)
+        }
         SeenReply::Open => unreachable!(),
         SeenReply::Never => unreachable!(),
     }

@@ -1,19 +1,20 @@
 // How far the bytes of a response have been read.
-ghost use Rattle.std.specs.Prelude.{◌≡◌, ◌≤◌, ◌<◌, ◌^◌, ◌+◌, ◌-◌, length, drop, take, [], ◌||◌, nat_lt, nat_le, if◌then◌else◌, List, ℕ, MatchOption, true, false};
+ghost use Rattle.std.specs.Prelude.{◌≡◌, ◌≤◌, ◌<◌, ◌^◌, ◌+◌, ◌-◌, length, drop, take, [], ◌++◌, ◌||◌, nat_lt, nat_le, if◌then◌else◌, List, ℕ, Some, MatchOption, true, false};
 ghost use Rattle.std.specs.Vec.{vec_capacity};
 ghost use Rattle.httparse.specs.Grammar.{ResponseHead};
 ghost use Rattle.ws_model.specs.Legal.{body_limit};
 ghost use Rattle.ws_http.specs.Responses.{raw_limit};
 ghost use Rattle.ws_http.specs.declared.fed.BadWhy.TheVariants as why;
 ghost use Rattle.ws_http.specs.declared.reply_stage.ReplyStage.TheVariants as stage;
-ghost use Rattle.ws_http.specs.ResponseStages.{Ready, Judged, HasInterims, HasFinal, HasData, extent_by, front, window, room_of, is_full, is_status, is_starved, is_last, stage_at_end, said, said_first, said_again, untold};
+ghost use Rattle.ws_http.specs.ResponseStages.{Ready, Small, Judged, HasInterims, HasFinal, HasData, extent_by, front, window, room_of, is_full, is_status, is_starved, is_last, stage_at_end, stage_closed, said, said_first, said_again, untold};
 
 use crate::extent::Extent;
 use crate::head::{MAX_HEAD, front_of};
-use crate::reply_data::{BODY_LIMIT, DataEnd, first, read_data};
+use crate::reply_data::{BODY_LIMIT, DataEnd, first, grow, read_data};
 use crate::reply_head::{FinalHead, HeadsEnd, read_heads};
 use crate::stage::passes_head;
 use crate::{BadWhy, Fed, Need};
+use ws_model::NoMemory;
 
 /// The most bytes of a chunked body, with its chunk lines and trailers.
 const RAW_LIMIT: usize = 8_388_608;
@@ -91,6 +92,13 @@ fn read_lasting(raw: &[u8], head: FinalHead) -> ReplyStage
     }
 }
 
+// Whether more bytes came than a chunked body may have.
+fn passes_raw(behind: &[u8], over: bool) -> bool
+    ensures { result ≡ (nat_lt raw_limit (length behind.now) || over) }
+{
+    behind.len() > RAW_LIMIT || over
+}
+
 // A chunked body, from the place where the next chunk begins, behind so much data.
 fn read_chunked(
     raw: &[u8],
@@ -107,13 +115,14 @@ fn read_chunked(
     requires ready { Ready need raw.now body.old.items (stage.Chunked head place size) }
     ensures judged { is_starved result ≡ false → Judged need raw.now over body.new.items result }
     ensures ready { Ready need raw.now body.new.items result }
+    ensures small { Small raw.now body.new.items result }
     ensures closes { over ≡ true → is_last result ≡ true }
     ensures capacity { vec_capacity body.old ≤ vec_capacity body.new }
 {
     let (_, behind) = raw.split_at(head.start);
     match read_data(first(behind, RAW_LIMIT), body, need, place, size) {
         DataEnd::Open(place, size) => {
-            if behind.len() > RAW_LIMIT || over {
+            if passes_raw(behind, over) {
                 ReplyStage::Bad(BadWhy::TooLong)
             } else {
                 ReplyStage::Chunked(head, place, size)
@@ -126,7 +135,40 @@ fn read_chunked(
     }
 }
 
-// The body behind a final head that says so how long it is.
+// The body of this length behind a final head.
+fn read_sized(
+    raw: &[u8],
+    body: &mut Vec<u8>,
+    need: Need,
+    over: bool,
+    head: FinalHead,
+    extent: Extent,
+) -> ReplyStage
+    requires short { length raw.now ≤ room_of need }
+    requires fits { is_full need ≡ false → 41 ≤ vec_capacity body.old }
+    requires full { over ≡ true → length raw.now ≡ room_of need }
+    requires empty { body.old.items ≡ [] }
+    requires asks { is_status need ≡ false }
+    requires heads { (h : ResponseHead) × HasFinal (front raw.now) head h × (extent_by h ≡ Some extent) }
+    ensures judged { is_starved result ≡ false → Judged need raw.now over body.new.items result }
+    ensures ready { Ready need raw.now body.new.items result }
+    ensures small { Small raw.now body.new.items result }
+    ensures closes { over ≡ true → is_last result ≡ true }
+    ensures capacity { vec_capacity body.old ≤ vec_capacity body.new }
+{
+    match extent {
+        Extent::Fixed(length) => {
+            if length > BODY_LIMIT as u64 {
+                return ReplyStage::Bad(BadWhy::TooLong);
+            }
+            read_fixed(raw, head, head.start + length as usize)
+        }
+        Extent::Lasting => read_lasting(raw, head),
+        Extent::Chunked => read_chunked(raw, body, need, over, head, 0, 0),
+    }
+}
+
+// The body behind a final head.
 fn read_body(
     raw: &[u8],
     body: &mut Vec<u8>,
@@ -142,6 +184,7 @@ fn read_body(
     requires heads { (h : ResponseHead) × HasFinal (front raw.now) head h × (extent ≡ extent_by h) }
     ensures judged { is_starved result ≡ false → Judged need raw.now over body.new.items result }
     ensures ready { Ready need raw.now body.new.items result }
+    ensures small { Small raw.now body.new.items result }
     ensures closes { over ≡ true → is_last result ≡ true }
     ensures capacity { vec_capacity body.old ≤ vec_capacity body.new }
 {
@@ -150,14 +193,7 @@ fn read_body(
     }
     match extent {
         None => ReplyStage::Bad(BadWhy::Framing),
-        Some(Extent::Fixed(length)) => {
-            if length > BODY_LIMIT as u64 {
-                return ReplyStage::Bad(BadWhy::TooLong);
-            }
-            read_fixed(raw, head, head.start + length as usize)
-        }
-        Some(Extent::Lasting) => read_lasting(raw, head),
-        Some(Extent::Chunked) => read_chunked(raw, body, need, over, head, 0, 0),
+        Some(extent) => read_sized(raw, body, need, over, head, extent),
     }
 }
 
@@ -169,6 +205,7 @@ fn read_front(raw: &[u8], body: &mut Vec<u8>, need: Need, over: bool, at: usize)
     requires ready { Ready need raw.now body.old.items (stage.Head at) }
     ensures judged { is_starved result ≡ false → Judged need raw.now over body.new.items result }
     ensures ready { Ready need raw.now body.new.items result }
+    ensures small { Small raw.now body.new.items result }
     ensures closes { over ≡ true → is_last result ≡ true }
     ensures capacity { vec_capacity body.old ≤ vec_capacity body.new }
 {
@@ -200,6 +237,7 @@ pub fn read_reply(
     requires ready { Ready need raw.now body.old.items from }
     ensures judged { is_starved result ≡ false → Judged need raw.now over body.new.items result }
     ensures ready { Ready need raw.now body.new.items result }
+    ensures small { Small raw.now body.new.items result }
     ensures closes { over ≡ true → is_last result ≡ true }
     ensures capacity { vec_capacity body.old ≤ vec_capacity body.new }
 {
@@ -214,8 +252,8 @@ pub fn read_reply(
     }
 }
 
-/// The stage once the connection has ended behind so many bytes.
-pub fn at_end(came: usize, stage: ReplyStage) -> ReplyStage
+// The stage once the connection has ended behind so many bytes.
+fn at_end(came: usize, stage: ReplyStage) -> ReplyStage
     ensures { result ≡ stage_at_end came stage }
 {
     match stage {
@@ -226,6 +264,42 @@ pub fn at_end(came: usize, stage: ReplyStage) -> ReplyStage
         ReplyStage::Whole(head, total, chunked) => ReplyStage::Whole(head, total, chunked),
         ReplyStage::Bad(why) => ReplyStage::Bad(why),
         ReplyStage::NoMemory => ReplyStage::NoMemory,
+    }
+}
+
+/// The stage with the connection ended behind so many bytes, or not.
+pub fn closed(end: bool, came: usize, stage: ReplyStage) -> ReplyStage
+    ensures { result ≡ stage_closed end came stage }
+{
+    if end { at_end(came, stage) } else { stage }
+}
+
+/// Takes the next piece of the bytes, and reads on.
+pub fn take_piece(
+    raw: &mut Vec<u8>,
+    body: &mut Vec<u8>,
+    need: Need,
+    piece: &[u8],
+    from: ReplyStage,
+) -> ReplyStage
+    requires short { length raw.old.items ≤ room_of need }
+    requires kept { is_full need ≡ false → room_of need ≤ vec_capacity raw.old }
+    requires fits { is_full need ≡ false → 41 ≤ vec_capacity body.old }
+    requires open { is_last from ≡ false }
+    requires ready { Ready need raw.old.items body.old.items from }
+    ensures took { is_starved result ≡ false → raw.new.items ≡ take (room_of need) (raw.old.items ++ piece.now) }
+    ensures judged { is_starved result ≡ false → Judged need raw.new.items (nat_lt (room_of need) (length (raw.old.items ++ piece.now))) body.new.items result }
+    ensures ready { Ready need raw.new.items body.new.items result }
+    ensures small { Small raw.new.items body.new.items result }
+    ensures closes { nat_lt (room_of need) (length (raw.old.items ++ piece.now)) ≡ true → is_last result ≡ true }
+    ensures short { length raw.new.items ≤ room_of need }
+    ensures raw_capacity { vec_capacity raw.old ≤ vec_capacity raw.new }
+    ensures body_capacity { vec_capacity body.old ≤ vec_capacity body.new }
+{
+    let (taken, left) = piece.split_at((room_of(need) - raw.len()).min(piece.len()));
+    match grow(raw, taken) {
+        Err(NoMemory) => ReplyStage::NoMemory,
+        Ok(()) => read_reply(raw, body, need, !left.is_empty(), from),
     }
 }
 

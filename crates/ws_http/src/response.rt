@@ -8,10 +8,10 @@ ghost use Rattle.ws_http.specs.ResponseStages.{is_status, is_whole, is_last, kep
 
 use crate::head::front_of;
 use crate::reply::build;
-use crate::reply_data::{SHORT, first, grow};
+use crate::reply_data::{SHORT, first};
 use crate::reply_head::FinalHead;
 use crate::reply_stage::{
-    ReplyStage, at_end, is_full, is_status, read_reply, reply_again, reply_told, room_of,
+    ReplyStage, closed, is_full, is_status, reply_again, reply_told, room_of, take_piece,
 };
 use crate::{Fed, Need};
 use std::alloc::Global;
@@ -118,14 +118,8 @@ impl ResponseReader {
         }
         let before = self.raw.len();
         let old = self.stage;
-        let (taken, left) = piece.split_at((room_of(self.need) - before).min(piece.len()));
-        let came = before + taken.len();
-        let grown = grow(&mut self.raw, taken);
-        let new = match grown {
-            Err(NoMemory) => ReplyStage::NoMemory,
-            Ok(()) => read_reply(&self.raw, &mut self.body, self.need, !left.is_empty(), old),
-        };
-        self.stage = if end { at_end(came, new) } else { new };
+        let new = take_piece(&mut self.raw, &mut self.body, self.need, piece, old);
+        self.stage = closed(end, self.raw.len(), new);
         reply_told(before, old, self.stage)
     }
 
@@ -147,7 +141,8 @@ impl ResponseReader {
             ReplyStage::Whole(head, total, chunked) => {
                 let kept = content(alloc, need, &raw, body, head, total, chunked)?;
                 let (_, rest) = front_of(&raw).split_at(head.at);
-                build(alloc, need, rest, kept)
+                let reply = build(alloc, need, rest, kept)?;
+                Ok(reply)
             }
             _ => unreachable!(),
         }

@@ -14,3 +14,4 @@ pub mod ReplyPartLemmas
 pub mod FitLemmas
 pub mod OutcomeLemmas
 pub mod ReplyStayLemmas
+pub mod ReplyPieceLemmas

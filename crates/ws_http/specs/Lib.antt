@@ -11,3 +11,4 @@ pub mod ResponseHeads
 pub mod ResponseStages
 pub mod ResponseData
 pub mod ResponseHeadsEnd
+pub mod ReplyPieces

@@ -206,6 +206,14 @@ said_again (stage.Whole f total chunked) = fed.Whole 0
 said_again (stage.Bad reason) = fed.Bad reason
 said_again stage.NoMemory = fed.NoMemory
 
+-- what an answer tells of the stage
+abbrev pub TellsReply : Fed → ReplyStage → Type 0
+TellsReply fed.More s = is_last s ≡ false
+TellsReply fed.Head s = is_last s ≡ false
+TellsReply (fed.Whole used) s = is_whole s ≡ true
+TellsReply (fed.Bad reason) s = s ≡ stage.Bad reason
+TellsReply fed.NoMemory s = s ≡ stage.NoMemory
+
 -- What callers see of a reader: what is asked for, the first bytes that came, the part of a chunked body
 -- that is kept, and how far they have been read.
 pub record ReplyReading : Type 0 where

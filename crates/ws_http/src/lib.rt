@@ -22,4 +22,6 @@ pub use response::ResponseReader;
 pub use write::{no_memory_answer, write_request, write_response};
 
 #[cfg(test)]
+mod reply_tests;
+#[cfg(test)]
 mod tests;

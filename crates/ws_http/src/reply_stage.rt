@@ -6,7 +6,7 @@ ghost use Rattle.ws_model.specs.Legal.{body_limit};
 ghost use Rattle.ws_http.specs.Responses.{raw_limit};
 ghost use Rattle.ws_http.specs.declared.fed.BadWhy.TheVariants as why;
 ghost use Rattle.ws_http.specs.declared.reply_stage.ReplyStage.TheVariants as stage;
-ghost use Rattle.ws_http.specs.ResponseStages.{Ready, Small, Judged, HasInterims, HasFinal, HasData, extent_by, front, window, room_of, is_full, is_status, is_starved, is_last, stage_at_end, stage_closed, said, said_first, said_again, untold};
+ghost use Rattle.ws_http.specs.ResponseStages.{Ready, Small, Judged, HasInterims, HasFinal, HasData, extent_by, front, window, room_of, is_full, is_status, is_starved, is_last, stage_at_end, stage_closed, said, said_first, said_again, untold, TellsReply};
 
 use crate::extent::Extent;
 use crate::head::{MAX_HEAD, front_of};
@@ -305,7 +305,7 @@ pub fn take_piece(
 
 /// What is said again at a last stage.
 pub fn reply_again(stage: ReplyStage) -> Option<Fed>
-    ensures { MatchOption result (is_last stage ≡ false) (λ answer. (is_last stage ≡ true) × (answer ≡ said_again stage)) }
+    ensures { MatchOption result (is_last stage ≡ false) (λ answer. (is_last stage ≡ true) × (answer ≡ said_again stage) × TellsReply answer stage) }
 {
     match stage {
         ReplyStage::Whole(..) => Some(Fed::Whole { used: 0 }),
@@ -317,7 +317,8 @@ pub fn reply_again(stage: ReplyStage) -> Option<Fed>
 
 // What is said where the final head wasn't whole before.
 fn told_first(before: usize, new: ReplyStage) -> Fed
-    ensures { result ≡ said_first before new }
+    ensures value { result ≡ said_first before new }
+    ensures tells { TellsReply result new }
 {
     match new {
         ReplyStage::Head(_) => Fed::More,
@@ -334,7 +335,8 @@ fn told_first(before: usize, new: ReplyStage) -> Fed
 
 /// What is said with a piece that stands behind so many bytes, between two stages.
 pub fn reply_told(before: usize, old: ReplyStage, new: ReplyStage) -> Fed
-    ensures { result ≡ said before old new }
+    ensures value { result ≡ said before old new }
+    ensures tells { TellsReply result new }
 {
     let answer = told_first(before, new);
     match (old, answer) {

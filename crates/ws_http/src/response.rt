@@ -79,7 +79,7 @@ fn content(
 }
 
 impl ResponseReader {
-    ghost use Rattle.ws_http.specs.ResponseStages.{ReplyReading, FeedsReply, Stands, fresh_reply};
+    ghost use Rattle.ws_http.specs.ResponseStages.{ReplyReading, FeedsReply, Stands, TellsReply, fresh_reply};
 
     /// A reader that keeps so much of the response.
     ///
@@ -112,6 +112,7 @@ impl ResponseReader {
     /// of the body is kept, and then each later feed says it again.
     pub fn feed(&mut self, piece: &[u8], end: bool) -> Fed
         ensures feeds { FeedsReply self.old piece.now end self.new result }
+        ensures tells { TellsReply result self.new.stage }
     {
         if let Some(answer) = reply_again(self.stage) {
             return answer;

@@ -1,9 +1,9 @@
 -- Each reply is one that an exchange can give.
-use Rattle.std.proofs.Common.{◌≡◌, ℕ, zero, suc, ◌+◌, ◌-◌, ◌^◌, ◌<◌, ◌≤◌, Bool, true, false, cond, List, [], ◌∷◌, ◌++◌, length, get_or, take, drop, map, reverse, refl, sym, ap, ◌∙◌, subst, arith, append-nil, length-append, length-drop, length-take}
-use Rattle.std.specs.Prelude.{nat_lt, nat_le, not, ◌&&◌, ◌||◌, ◌==◌, codes, All, IsTrue, Option, Some, None}
-use Rattle.std.specs.List.{flat_map, list_any, list_all, AllByRecursion}
+use Rattle.std.proofs.Common.{◌≡◌, ℕ, ◌+◌, ◌-◌, ◌^◌, ◌<◌, ◌≤◌, Bool, true, false, cond, List, [], ◌∷◌, ◌++◌, length, get_or, take, reverse, refl, sym, ap, ◌∙◌, subst, arith, length-append, length-take}
+use Rattle.std.specs.Prelude.{nat_lt, nat_le, not, ◌&&◌, ◌||◌, ◌==◌, codes, All, IsTrue, Some}
+use Rattle.std.specs.List.{flat_map, AllByRecursion}
 use Rattle.std.specs.Char.{is_ascii_digit, digit_value}
-use Rattle.std.specs.Str.Parse.{AllDigits, digits_value}
+use Rattle.std.specs.Str.Parse.{AllDigits}
 use Rattle.std.proofs.lemmas.Bool.{false≢true}
 use Rattle.std.proofs.lemmas.Bool.Decides.{nat_tests}
 use Rattle.std.proofs.lemmas.Int.Digits.{digits_value-lt}
@@ -13,13 +13,13 @@ use Rattle.std.proofs.lemmas.List.Folds.{list_any-append}
 use Rattle.httparse.specs.Grammar.{LineEnd, crlf, lf, AllPass, Field, IsField, field_value, print_field, print_end, is_value_byte, is_ows, skip_ows, trim_ows, ResponseHead, IsResponseHead, print_response, status_code}
 use Rattle.httparse.specs.Spans.{name_and_value}
 use Rattle.httparse.proofs.TrimLemmas.{AllPass-trim_ows}
-use Rattle.ws_model.specs.Legal.{body_limit, has_byte, is_field_value, is_blank, is_trimmed}
-use Rattle.ws_model.specs.Fit.{is_head_text, is_fit_media, is_fit_reply}
+use Rattle.ws_model.specs.Legal.{body_limit, has_byte, is_blank, is_trimmed}
+use Rattle.ws_model.specs.Fit.{is_head_text, is_fit_reply}
 use Rattle.ws_http.specs.Fields.{is_named, first_value, fields_of}
 use Rattle.ws_http.specs.ResponseFields.{or_empty, values_of, joined, joined_behind, told_reply, bare_reply, reply_of}
 use Rattle.ws_http.specs.declared.fed.Need.{Need}
 use Rattle.ws_http.specs.declared.fed.Need.TheVariants as need
-use Rattle.ws_http.proofs.HeadLemmas.{length_field, length_response}
+use Rattle.ws_http.proofs.HeadLemmas.{length_response}
 
 -- ---- the status
 

@@ -15,3 +15,6 @@ pub mod FitLemmas
 pub mod OutcomeLemmas
 pub mod ReplyStayLemmas
 pub mod ReplyPieceLemmas
+pub mod UniqueLemmas
+pub mod OneReplyLemmas
+pub mod OneRequestLemmas

@@ -1,5 +1,5 @@
 -- Each outcome that an exchange got is fit.
-use Rattle.std.proofs.Common.{◌≡◌, ℕ, ◌+◌, ◌≤◌, Bool, true, false, cond, List, [], ◌++◌, length, take, drop, refl, sym, ap, ◌∙◌, subst, arith, Option, Some, None, length-append, length-take}
+use Rattle.std.proofs.Common.{◌≡◌, ℕ, ◌+◌, ◌≤◌, Bool, true, false, cond, List, [], length, take, drop, refl, sym, ap, ◌∙◌, subst, arith, Option, Some, None, length-append, length-take}
 use Rattle.std.specs.Prelude.{nat_lt, nat_le, MatchBool}
 use Rattle.std.proofs.lemmas.Bool.Decides.{nat_tests}
 use Rattle.httparse.specs.Grammar.{ResponseHead, IsResponseHead, print_response, status_code}
@@ -14,10 +14,10 @@ use Rattle.ws_http.specs.declared.extent.Extent.{Extent}
 use Rattle.ws_http.specs.declared.extent.Extent.TheVariants as extent
 use Rattle.ws_http.specs.declared.chunk.Next.{Next}
 use Rattle.ws_http.specs.declared.chunk.Next.TheVariants as next
-use Rattle.ws_http.specs.Chunks.{Chunk, LineNext, chunk_data, print_chunks}
+use Rattle.ws_http.specs.Chunks.{Chunk, LineNext, chunk_data}
 use Rattle.ws_http.specs.Fields.{fields_of}
 use Rattle.ws_http.specs.ResponseFields.{response_extent, reply_of}
-use Rattle.ws_http.specs.Responses.{Verdict, unfinished, headed, lasting, whole, bad, Front, partial, wrong, final, IsFront, FrontSays, FinalSays, BodySays, ChunkedSays, ChunksEnd, fixed_verdict, lasting_verdict, is_over, raw_limit, IsResponse, closed, at_end, fault_outcome, Makes, Got, print_heads}
+use Rattle.ws_http.specs.Responses.{Verdict, unfinished, headed, lasting, whole, bad, Front, partial, wrong, final, IsFront, FrontSays, FinalSays, BodySays, ChunksEnd, is_over, raw_limit, IsResponse, closed, fault_outcome, Makes, Got, print_heads}
 use Rattle.ws_http.proofs.FitLemmas.{reply_fit}
 
 -- the reply of a verdict is fit, where it has one

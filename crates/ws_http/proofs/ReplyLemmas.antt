@@ -1,5 +1,5 @@
 -- The heads and the chunked body of a response, piece by piece.
-use Rattle.std.proofs.Common.{◌≡◌, ℕ, zero, suc, ◌+◌, ◌-◌, ◌<◌, ◌≤◌, Bool, true, false, List, [], ◌∷◌, ◌++◌, length, take, drop, refl, sym, ap, ◌∙◌, subst, arith, append_assoc, append-nil, length-append, length-drop, length-take, length-take-le, drop-drop}
+use Rattle.std.proofs.Common.{◌≡◌, ℕ, zero, suc, ◌+◌, ◌-◌, ◌<◌, ◌≤◌, Bool, true, false, List, [], ◌∷◌, ◌++◌, length, take, drop, refl, sym, ap, ◌∙◌, arith, append_assoc, append-nil, length-append, length-drop, length-take, length-take-le, drop-drop}
 use Rattle.std.specs.Prelude.{nat_lt, nat_le, min, ◌==◌, MatchBool, IsTrue, None}
 use Rattle.std.specs.List.{flat_map, AllByRecursion}
 use Rattle.std.proofs.lemmas.Bool.Decides.{nat_tests}
@@ -9,7 +9,6 @@ use Rattle.std.specs.Char.{is_ascii_digit}
 use Rattle.httparse.specs.Grammar.{ResponseHead, IsResponseHead, print_response, status_code, LineEnd, crlf, lf, print_end, print_section, print_field, print_blank, print_version, print_reason}
 use Rattle.ws_http.specs.declared.fed.Need.{Need}
 use Rattle.ws_http.specs.declared.fed.Need.TheVariants as need
-use Rattle.ws_http.specs.declared.extent.Extent.{Extent}
 use Rattle.ws_http.specs.declared.reply_head.FinalHead.{FinalHead}
 use Rattle.ws_http.specs.declared.chunk.Line.{Line}
 use Rattle.ws_http.specs.declared.chunk.Line.TheVariants as line
@@ -18,11 +17,11 @@ use Rattle.ws_http.specs.declared.chunk.Next.TheVariants as next
 use Rattle.ws_model.specs.Legal.{body_limit}
 use Rattle.ws_http.specs.Chunks.{Follows, LineIs, LineNext, TrailerNext, end_next}
 use Rattle.ws_http.specs.ResponseFields.{kept_of}
-use Rattle.ws_http.specs.Responses.{IsResponse, unfinished, partial, is_interim, IsInterim, print_heads, Behind, is_over}
+use Rattle.ws_http.specs.Responses.{IsResponse, unfinished, partial, is_interim, IsInterim, print_heads, is_over}
 use Rattle.ws_http.specs.ResponseHeads.{HasHeadOf}
 use Rattle.ws_http.specs.ResponseStages.{HasInterims, HasFinal, HasData}
 use Rattle.ws_http.specs.ResponseData.{more_of}
-use Rattle.ws_http.proofs.ChunkLemmas.{Found, chunk_found, no_trailer_chunk, end_found, no_chunk_by}
+use Rattle.ws_http.proofs.ChunkLemmas.{chunk_found, no_trailer_chunk, end_found, no_chunk_by}
 use Rattle.ws_http.proofs.StageLemmas.{chunks_go_on}
 
 -- ---- the heads

@@ -1,21 +1,16 @@
 -- The reply that is built is the one of the head that was read.
-use Rattle.std.proofs.Common.{◌≡◌, ℕ, ◌+◌, ◌≤◌, ◌-◌, Bool, true, false, cond, List, [], ◌∷◌, ◌++◌, length, take, drop, refl, sym, ap, ◌∙◌, subst, arith}
+use Rattle.std.proofs.Common.{◌≡◌, ℕ, Bool, true, false, List, drop, refl, sym, ap, subst}
 use Rattle.httparse.specs.declared.spans.HeaderSpan.{HeaderSpan}
 use Rattle.httparse.specs.declared.spans.ResponseSpans.{ResponseSpans}
 use Rattle.httparse.specs.Grammar.{ResponseHead, ReadsResponse, status_code}
 use Rattle.httparse.specs.Spans.{IsResponseAt, IsResponseOf}
 use Rattle.httparse.proofs.GrammarLemmas.{response_unique}
-use Rattle.ws_model.specs.declared.work.Outcome.TheVariants as outcome
-use Rattle.ws_model.specs.declared.reply.Reply.{Reply}
 use Rattle.ws_http.specs.declared.fed.Need.{Need}
 use Rattle.ws_http.specs.declared.fed.Need.TheVariants as need
-use Rattle.ws_http.specs.declared.reply_head.FinalHead.{FinalHead}
-use Rattle.ws_http.specs.declared.reply_stage.ReplyStage.TheVariants as stage
 use Rattle.ws_http.specs.Fields.{fields_of}
 use Rattle.ws_http.specs.ResponseFields.{told_reply, bare_reply, reply_of, kept_of}
-use Rattle.ws_http.specs.Responses.{Verdict, Makes, Got}
 use Rattle.ws_http.specs.ResponseHeads.{built_of}
-use Rattle.ws_http.specs.ResponseStages.{is_status, content_of, kept_content, ReplyReading, Stands, Says, front}
+use Rattle.ws_http.specs.ResponseStages.{is_status, content_of, kept_content}
 
 -- the head that was parsed is the one at the front
 pub reply_at : (bytes : List ℕ) (headers : List HeaderSpan) (spans : ResponseSpans) → IsResponseOf bytes headers spans

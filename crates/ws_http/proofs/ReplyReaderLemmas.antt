@@ -1,10 +1,9 @@
 -- A piece more, for a reader of responses.
-use Rattle.std.proofs.Common.{◌≡◌, ℕ, ◌+◌, ◌-◌, ◌≤◌, Bool, true, false, not, cond, List, [], ◌++◌, length, take, drop, refl, sym, ap, ◌∙◌, subst, arith, append_assoc, length-append, length-take, length-drop}
+use Rattle.std.proofs.Common.{◌≡◌, ℕ, ◌-◌, ◌≤◌, Bool, true, false, List, ◌++◌, length, take, drop, refl, sym, ap, ◌∙◌, subst, arith, append_assoc, length-append, length-take, length-drop}
 use Rattle.std.specs.Prelude.{nat_lt}
 use Rattle.std.proofs.lemmas.Bool.Decides.{nat_tests}
 use Rattle.std.proofs.lemmas.List.{take_all, drop-append-le}
-use Rattle.httparse.specs.Grammar.{ResponseHead, print_response, ReadsResponse}
-use Rattle.ws_http.specs.declared.fed.BadWhy.TheVariants as why
+use Rattle.httparse.specs.Grammar.{ResponseHead, print_response}
 use Rattle.ws_http.specs.declared.fed.Fed.{Fed}
 use Rattle.ws_http.specs.declared.fed.Fed.TheVariants as fed
 use Rattle.ws_http.specs.declared.fed.Need.{Need}
@@ -12,10 +11,9 @@ use Rattle.ws_http.specs.declared.fed.Need.TheVariants as need
 use Rattle.ws_http.specs.declared.reply_head.FinalHead.{FinalHead}
 use Rattle.ws_http.specs.declared.reply_stage.ReplyStage.{ReplyStage}
 use Rattle.ws_http.specs.declared.reply_stage.ReplyStage.TheVariants as stage
-use Rattle.ws_model.specs.Legal.{body_limit}
-use Rattle.ws_http.specs.ResponseFields.{reply_of, kept_of}
-use Rattle.ws_http.specs.Responses.{Verdict, lasting, whole, print_heads, raw_limit, closed, at_end, IsResponse}
-use Rattle.ws_http.specs.ResponseStages.{Ready, Small, Says, Judged, HasInterims, HasFinal, HasData, front, window, room_of, is_full, is_last, is_starved, stage_closed, stage_at_end, said, said_first, untold, ReplyReading, Stands, FeedsReply}
+use Rattle.ws_http.specs.ResponseFields.{reply_of}
+use Rattle.ws_http.specs.Responses.{Verdict, whole, print_heads, raw_limit, closed, at_end}
+use Rattle.ws_http.specs.ResponseStages.{Ready, Small, Says, Judged, HasInterims, HasFinal, HasData, front, window, room_of, is_full, is_last, is_starved, stage_closed, said, ReplyReading, Stands, FeedsReply}
 use Rattle.ws_http.proofs.ReaderLemmas.{front_more, chunks_more}
 
 interims_more : (x z : List ℕ) (at : ℕ) → HasInterims x at → HasInterims (x ++ z) at

@@ -1,9 +1,9 @@
 -- What a stage of reading a response stands for, whatever came behind the bytes that are kept.
-use Rattle.std.proofs.Common.{◌≡◌, ℕ, ◌+◌, ◌-◌, ◌<◌, ◌≤◌, Bool, true, false, cond, List, [], ◌++◌, length, take, drop, refl, sym, ap, ◌∙◌, subst, arith, length-drop, length-take, Option, Some, None}
-use Rattle.std.specs.Prelude.{nat_lt, nat_le, min, ◌||◌, MatchBool, ◌⊎◌}
+use Rattle.std.proofs.Common.{◌≡◌, ℕ, ◌+◌, ◌-◌, ◌<◌, ◌≤◌, Bool, true, false, cond, List, [], length, take, drop, refl, sym, ap, ◌∙◌, subst, arith, length-drop, length-take, Option, Some, None}
+use Rattle.std.specs.Prelude.{nat_lt, nat_le, ◌||◌, MatchBool}
 use Rattle.std.proofs.lemmas.Bool.Decides.{nat_tests}
 use Rattle.std.proofs.lemmas.List.{take-take, take_all}
-use Rattle.httparse.specs.Grammar.{ResponseHead, status_code, HasNoResponse, MayBecomeResponse, NeverHasResponse}
+use Rattle.httparse.specs.Grammar.{ResponseHead}
 use Rattle.ws_model.specs.Legal.{body_limit}
 use Rattle.ws_http.specs.declared.fed.BadWhy.TheVariants as why
 use Rattle.ws_http.specs.declared.fed.Need.{Need}
@@ -17,10 +17,10 @@ use Rattle.ws_http.specs.declared.reply_head.FinalHead.{FinalHead}
 use Rattle.ws_http.specs.declared.reply_data.DataEnd.TheVariants as end
 use Rattle.ws_http.specs.declared.reply_stage.ReplyStage.{ReplyStage}
 use Rattle.ws_http.specs.declared.reply_stage.ReplyStage.TheVariants as stage
-use Rattle.ws_http.specs.Chunks.{After, LineIs, LineNext, chunk_data, print_chunks}
-use Rattle.ws_http.specs.ResponseFields.{kept_of, told_reply, reply_of}
-use Rattle.ws_http.specs.Responses.{Verdict, unfinished, headed, lasting, whole, bad, Front, partial, wrong, final, IsFront, HasLowCode, FrontSays, FinalSays, BodySays, ChunkedSays, ChunksEnd, fixed_verdict, lasting_verdict, is_over, raw_limit, Behind, IsResponse}
-use Rattle.ws_http.specs.ResponseStages.{room_of, is_status, front, window, extent_by, HasInterims, HasFinal, HasData, Judged, Ready, is_last}
+use Rattle.ws_http.specs.Chunks.{After, LineNext, chunk_data, print_chunks}
+use Rattle.ws_http.specs.ResponseFields.{kept_of, reply_of}
+use Rattle.ws_http.specs.Responses.{Verdict, unfinished, headed, lasting, whole, bad, Front, partial, wrong, final, IsFront, FrontSays, FinalSays, BodySays, ChunksEnd, fixed_verdict, is_over, raw_limit, Behind, IsResponse}
+use Rattle.ws_http.specs.ResponseStages.{room_of, is_status, front, window, extent_by, HasInterims, HasFinal, Judged, Ready, is_last}
 use Rattle.ws_http.specs.ResponseData.{StopsAt, IsDataEnd}
 use Rattle.ws_http.specs.ResponseHeadsEnd.{IsHeadsEnd}
 use Rattle.ws_http.specs.declared.reply_head.HeadsEnd.TheVariants as heads

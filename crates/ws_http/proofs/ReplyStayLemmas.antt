@@ -1,10 +1,10 @@
 -- What is final of a response stays so behind more bytes.
-use Rattle.std.proofs.Common.{◌≡◌, ℕ, ◌+◌, ◌-◌, ◌<◌, ◌≤◌, Bool, true, false, cond, List, [], ◌∷◌, ◌++◌, length, take, drop, refl, sym, ap, ◌∙◌, subst, arith, append_assoc, length-append, length-drop, length-take, Option, Some, None, inl, inr}
+use Rattle.std.proofs.Common.{◌≡◌, ℕ, ◌+◌, ◌-◌, ◌<◌, ◌≤◌, Bool, true, false, cond, List, ◌++◌, length, take, drop, refl, sym, ap, ◌∙◌, subst, arith, append_assoc, length-append, length-drop, length-take, Option, Some, None, inl, inr}
 use Rattle.std.specs.Prelude.{nat_lt, nat_le, min, ◌==◌, MatchBool}
 use Rattle.std.proofs.lemmas.Bool.{false≢true}
 use Rattle.std.proofs.lemmas.Bool.Decides.{nat_tests}
 use Rattle.std.proofs.lemmas.List.{take-append-le, drop-append-le}
-use Rattle.httparse.specs.Grammar.{ResponseHead, print_response, status_code, ReadsResponse, NeverHasResponse, ReadsChunkLine}
+use Rattle.httparse.specs.Grammar.{ResponseHead, print_response, status_code, ReadsResponse, ReadsChunkLine}
 use Rattle.ws_model.specs.Legal.{body_limit}
 use Rattle.ws_http.specs.declared.fed.BadWhy.TheVariants as why
 use Rattle.ws_http.specs.declared.fed.Need.{Need}
@@ -18,7 +18,7 @@ use Rattle.ws_http.specs.declared.chunk.Next.TheVariants as next
 use Rattle.ws_http.specs.Chunks.{After, LineIs, LineNext, chunk_data, print_chunks, end_next, TrailerNext}
 use Rattle.ws_http.specs.Fields.{fields_of}
 use Rattle.ws_http.specs.ResponseFields.{response_extent, reply_of}
-use Rattle.ws_http.specs.Responses.{Verdict, unfinished, headed, lasting, whole, bad, is_final, Front, partial, wrong, final, IsFront, HasLowCode, FrontSays, FinalSays, BodySays, ChunkedSays, ChunksEnd, fixed_verdict, lasting_verdict, is_over, raw_limit, print_heads, Behind, IsResponse}
+use Rattle.ws_http.specs.Responses.{Verdict, unfinished, headed, lasting, whole, bad, is_final, Front, partial, wrong, final, IsFront, FrontSays, FinalSays, BodySays, ChunkedSays, ChunksEnd, fixed_verdict, is_over, raw_limit, print_heads, Behind, IsResponse}
 use Rattle.ws_http.proofs.ReaderLemmas.{front_more}
 use Rattle.ws_http.proofs.StayLemmas.{IsLast, not_open, next_by, line_more, end_inside}
 

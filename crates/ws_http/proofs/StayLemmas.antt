@@ -1,10 +1,10 @@
 -- What is final on some bytes stays so behind more bytes.
-use Rattle.std.proofs.Common.{◌≡◌, ℕ, ◌+◌, ◌-◌, ◌<◌, ◌≤◌, Bool, true, false, cond, List, [], ◌∷◌, ◌++◌, length, take, drop, refl, sym, ap, ◌∙◌, subst, arith, append_assoc, append-nil, length-append, length-drop, length-take}
+use Rattle.std.proofs.Common.{◌≡◌, ℕ, ◌+◌, ◌<◌, ◌≤◌, Bool, true, false, cond, List, [], ◌∷◌, ◌++◌, length, take, drop, refl, sym, ap, ◌∙◌, subst, arith, append_assoc, length-append, length-drop, length-take}
 use Rattle.std.specs.Prelude.{nat_lt, nat_le, ◌==◌, ◌&&◌, MatchBool}
 use Rattle.std.proofs.lemmas.Bool.{false≢true}
 use Rattle.std.proofs.lemmas.Bool.Decides.{nat_tests}
 use Rattle.std.proofs.lemmas.List.{take-append-le, drop-append-le}
-use Rattle.httparse.specs.Grammar.{RequestHead, print_request, ReadsRequest, NeverHasRequest, LineEnd, Field, print_section, ReadsSection, NeverHasSection, ChunkLine, print_chunk_line, ReadsChunkLine, NeverHasChunkLine}
+use Rattle.httparse.specs.Grammar.{RequestHead, print_request, ReadsRequest, print_section, ReadsSection, NeverHasSection, print_chunk_line, ReadsChunkLine}
 use Rattle.ws_http.specs.declared.fed.BadWhy.{BadWhy}
 use Rattle.ws_http.specs.declared.fed.BadWhy.TheVariants as why
 use Rattle.ws_http.specs.declared.head.Framing.{Framing}
@@ -17,10 +17,9 @@ use Rattle.ws_http.specs.declared.chunk.Section.{Section}
 use Rattle.ws_http.specs.declared.chunk.Section.TheVariants as section
 use Rattle.ws_http.specs.declared.chunk.Next.{Next}
 use Rattle.ws_http.specs.declared.chunk.Next.TheVariants as next
-use Rattle.ws_http.specs.Heads.{Judges, IsSound}
+use Rattle.ws_http.specs.Heads.{Judges}
 use Rattle.ws_http.specs.Chunks.{After, Follows, LineIs, SectionIs, LineNext, TrailerNext, trailer_next, end_next, print_chunks}
 use Rattle.ws_http.specs.Requests.{Verdict, unfinished, headed, whole, bad, is_final, fixed_verdict, Ends, ChunkedVerdict, FramedVerdict, HeadVerdict, IsRequest}
-use Rattle.ws_http.specs.RequestStages.{HasHead}
 use Rattle.ws_http.proofs.StageLemmas.{fixed_by}
 use Rattle.ws_http.proofs.ReaderLemmas.{front_more, head_more}
 

@@ -4,7 +4,7 @@ use Rattle.ws_http.specs.declared.fed.BadWhy.{BadWhy}
 use Rattle.ws_http.specs.declared.fed.Fed.{Fed}
 use Rattle.ws_http.specs.declared.fed.Need.{Need}
 use Rattle.ws_http.specs.declared.reply_stage.ReplyStage.TheVariants as stage
-use Rattle.ws_http.specs.Responses.{Got, fault_outcome}
+use Rattle.ws_http.specs.Responses.{Verdict, IsResponse, Got, fault_outcome}
 use Rattle.ws_http.specs.ResponseStages.{ReplyReading, FeedsReply, Stands, fresh_reply, is_last, is_starved, said, said_again}
 
 -- a piece, with the connection's end behind it or not, the answer to it, and the reader after it
@@ -38,3 +38,7 @@ abbrev pub FaultsAreGot : Type 0
 FaultsAreGot =
     (r : ReplyReading) (came : List ℕ) (ended : Bool) (reason : BadWhy) → Stands r came ended → r.stage ≡ stage.Bad reason
     → Got r.need came ended (fault_outcome reason)
+
+-- the bytes of a response have one verdict
+abbrev pub OneReply : Type 0
+OneReply = (need : Need) (bytes : List ℕ) (v w : Verdict) → IsResponse need bytes v → IsResponse need bytes w → v ≡ w

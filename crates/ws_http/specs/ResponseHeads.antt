@@ -1,9 +1,8 @@
 -- What the front of a response says, as it is parsed.
-use Rattle.std.specs.Prelude.{◌≡◌, ℕ, ◌≤◌, ◌⊎◌, true, List, length, drop, nat_le, Option}
+use Rattle.std.specs.Prelude.{◌≡◌, ℕ, ◌≤◌, ◌⊎◌, true, List, length, drop, nat_le}
 use Rattle.httparse.specs.declared.spans.HeaderSpan.{HeaderSpan}
 use Rattle.httparse.specs.Grammar.{ResponseHead, print_response, status_code, ReadsResponse, HasNoResponse, MayBecomeResponse, NeverHasResponse}
 use Rattle.httparse.specs.Spans.{IsResponseWithin, IsResponseOf}
-use Rattle.ws_http.specs.declared.extent.Extent.{Extent}
 use Rattle.ws_http.specs.declared.reply_head.SeenReply.{SeenReply}
 use Rattle.ws_http.specs.declared.reply_head.SeenReply.TheVariants as seen
 use Rattle.ws_http.specs.declared.reply_head.Ahead.{Ahead}

@@ -1,8 +1,7 @@
 -- What a response reader keeps between two pieces, and what it stands for.
-use Rattle.std.specs.Prelude.{◌≡◌, ℕ, ◌+◌, ◌-◌, ◌≤◌, Bool, true, false, if◌then◌else◌, nat_lt, nat_le, List, [], ◌∷◌, ◌++◌, length, take, drop, Option, Some, None, ⊤}
+use Rattle.std.specs.Prelude.{◌≡◌, ℕ, ◌+◌, ◌-◌, ◌≤◌, Bool, true, false, if◌then◌else◌, nat_lt, nat_le, List, [], ◌++◌, length, take, drop, Option, Some, ⊤}
 use Rattle.httparse.specs.Grammar.{ResponseHead, print_response, status_code, ReadsResponse}
 use Rattle.ws_model.specs.Legal.{body_limit}
-use Rattle.ws_http.specs.declared.fed.BadWhy.{BadWhy}
 use Rattle.ws_http.specs.declared.fed.BadWhy.TheVariants as why
 use Rattle.ws_http.specs.declared.fed.Fed.{Fed}
 use Rattle.ws_http.specs.declared.fed.Fed.TheVariants as fed
@@ -13,7 +12,6 @@ use Rattle.ws_http.specs.declared.extent.Extent.TheVariants as extent
 use Rattle.ws_http.specs.declared.reply_head.FinalHead.{FinalHead}
 use Rattle.ws_http.specs.declared.reply_stage.ReplyStage.{ReplyStage}
 use Rattle.ws_http.specs.declared.reply_stage.ReplyStage.TheVariants as stage
-use Rattle.ws_http.specs.Chunks.{Chunk}
 use Rattle.ws_http.specs.RequestStages.{HasChunks}
 use Rattle.ws_http.specs.Fields.{fields_of}
 use Rattle.ws_http.specs.ResponseFields.{response_extent, reply_of, kept_of}

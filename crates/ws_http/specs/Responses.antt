@@ -1,7 +1,7 @@
 -- What the bytes of a response say, as many as have come (RFC 9112, sections 4 to 8, in this hub's
 -- profile: heads in the first 16,384 bytes, a body of at most 4,194,304 bytes, and at most 8,388,608
 -- bytes of a chunked body with its chunk lines and trailers).
-use Rattle.std.specs.Prelude.{◌≡◌, ℕ, ◌+◌, ◌-◌, ◌≤◌, ◌⊎◌, Bool, true, false, ◌&&◌, if◌then◌else◌, nat_lt, nat_le, min, MatchBool, List, [], ◌∷◌, ◌++◌, length, take, drop, Option, Some, None, ⊤}
+use Rattle.std.specs.Prelude.{◌≡◌, ℕ, ◌+◌, ◌-◌, ◌≤◌, ◌⊎◌, Bool, true, false, ◌&&◌, if◌then◌else◌, nat_lt, nat_le, min, MatchBool, List, [], ◌++◌, length, take, drop, Option, Some, None}
 use Rattle.std.specs.List.{flat_map, AllByRecursion}
 use Rattle.httparse.specs.Grammar.{ResponseHead, print_response, status_code, IsResponseHead, ReadsResponse, HasNoResponse, MayBecomeResponse, NeverHasResponse}
 use Rattle.ws_model.specs.Legal.{body_limit}

@@ -374,9 +374,7 @@ fn reply_of(
 fn short_need_chunked_body(rt: HostRuntime) -> Result<(), Fail> {
     let text =
         b"HTTP/1.1 200 OK\r\nContent-Type: a/b\r\nTransfer-Encoding: chunked\r\n\r\n2\r\nab\r\n0\r\n\r\n";
-    let Some(reply) = reply_of(&rt, Need::Short, text)? else {
-        return Err(Fail);
-    };
+    let reply = reply_of(&rt, Need::Short, text)?.expect(&rt, "a whole response");
     assert_eq!(rt; reply.code, 200);
     assert_eq!(rt; reply.media.as_slice(), b"a/b".as_slice());
     assert_eq!(rt; reply.body.as_slice(), b"ab".as_slice());
@@ -388,12 +386,8 @@ fn short_need_chunked_body(rt: HostRuntime) -> Result<(), Fail> {
 fn reply_of_its_fields(rt: HostRuntime) -> Result<(), Fail> {
     let text =
         b"HTTP/1.1 404 No\r\nLink: <a>\r\nContent-Type: \ttext/x \r\nlink: <b>\r\nContent-Encoding: gzip\r\nContent-Type: a/b\r\nContent-Length: 43\r\n\r\n0123456789012345678901234567890123456789abc";
-    let Some(short) = reply_of(&rt, Need::Short, text)? else {
-        return Err(Fail);
-    };
-    let Some(full) = reply_of(&rt, Need::Full, text)? else {
-        return Err(Fail);
-    };
+    let short = reply_of(&rt, Need::Short, text)?.expect(&rt, "a whole response");
+    let full = reply_of(&rt, Need::Full, text)?.expect(&rt, "a whole response");
     assert_eq!(rt; full.code, 404);
     assert_eq!(rt; full.media.as_slice(), b"text/x".as_slice());
     assert_eq!(rt; full.coding.as_slice(), b"gzip".as_slice());

@@ -1,4 +1,4 @@
-use Rattle.std.proofs.Common.{ℕ, List, sym, ap, ◌∙◌}
+use Rattle.std.proofs.Common.{sym, ap, ◌∙◌}
 use Rattle.ws_http.specs.ResponseFields.{told_reply, bare_reply}
 use Rattle.ws_http.proofs.ReplyPartLemmas.{reply_at, built_bare, built_told}
 use Rattle.ws_http.proofs.reply.build.Goals as goal

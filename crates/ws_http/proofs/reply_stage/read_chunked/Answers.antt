@@ -1,4 +1,4 @@
-use Rattle.std.proofs.Common.{List, ℕ, length, take, drop, sym, ap, ◌∙◌, subst, arith, length-take}
+use Rattle.std.proofs.Common.{List, ℕ, length, take, sym, ap, ◌∙◌, subst, arith, length-take}
 use Rattle.ws_http.specs.declared.reply_data.DataEnd.TheVariants as end
 use Rattle.ws_http.specs.Responses.{raw_limit}
 use Rattle.ws_http.specs.ResponseData.{IsDataEnd}

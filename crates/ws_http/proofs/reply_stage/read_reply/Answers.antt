@@ -1,4 +1,3 @@
-use Rattle.std.proofs.Common.{sym, ap, ◌∙◌, refl, arith, subst}
 use Rattle.ws_http.proofs.ReplyStageLemmas.{start_small, fixed_judged, fixed_closes, lasting_judged, lasting_closes}
 use Rattle.ws_http.proofs.reply_stage.read_reply.Goals as goal
 

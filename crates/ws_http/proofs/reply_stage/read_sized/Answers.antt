@@ -1,4 +1,4 @@
-use Rattle.std.proofs.Common.{sym, ap, ◌∙◌, refl, arith, [], Some}
+use Rattle.std.proofs.Common.{ap, ◌∙◌, refl, arith, [], Some}
 use Rattle.ws_http.proofs.ReplyStageLemmas.{start_small, declared_long, fixed_judged, fixed_closes, lasting_judged, lasting_closes}
 use Rattle.ws_http.proofs.reply_stage.read_sized.Goals as goal
 

@@ -1,4 +1,4 @@
-use Rattle.std.proofs.Common.{◌≡◌, ◌≤◌, ℕ, List, ◌++◌, false, length, sym, ap, ◌∙◌, subst, arith}
+use Rattle.std.proofs.Common.{◌≡◌, ℕ, false, length, sym, ap, ◌∙◌, subst, arith}
 use Rattle.ws_http.specs.declared.reply_stage.ReplyStage.{ReplyStage}
 use Rattle.ws_http.specs.ResponseStages.{Ready, Small, ReplyReading, FeedsReply, is_last, said, stage_closed}
 use Rattle.ws_http.proofs.ReplyReaderLemmas.{reply_feeds, closed_ready, closed_small}

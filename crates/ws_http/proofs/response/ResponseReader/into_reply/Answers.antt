@@ -1,4 +1,4 @@
-use Rattle.std.proofs.Common.{◌≡◌, ℕ, List, length, take, drop, sym, ap, ◌∙◌, subst, arith, length-take}
+use Rattle.std.proofs.Common.{ℕ, List, take, drop, sym, ap, ◌∙◌, subst, arith, length-take}
 use Rattle.httparse.specs.Grammar.{ReadsResponse}
 use Rattle.ws_model.specs.Fit.{is_fit_reply}
 use Rattle.ws_http.specs.ResponseHeads.{built_of}

@@ -1,4 +1,4 @@
-use Rattle.std.proofs.Common.{sym, refl}
+use Rattle.std.proofs.Common.{refl}
 use Rattle.ws_http.specs.Responses.{unfinished}
 use Rattle.ws_http.proofs.ReplyLemmas.{nothing_came}
 use Rattle.ws_http.proofs.response.ResponseReader.made.Goals as goal

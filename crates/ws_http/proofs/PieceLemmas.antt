@@ -1,8 +1,7 @@
 -- One piece after another.
 use Rattle.std.proofs.Common.{◌≡◌, ℕ, ◌≤◌, Bool, true, false, cond, List, [], ◌∷◌, ◌++◌, length, refl, sym, ap, ◌∙◌, subst}
 use Rattle.std.proofs.lemmas.Bool.{false≢true}
-use Rattle.ws_http.specs.declared.fed.Fed.{Fed}
-use Rattle.ws_http.specs.Requests.{Verdict, unfinished, is_final, said, said_again, IsRequest}
+use Rattle.ws_http.specs.Requests.{is_final, said, said_again, IsRequest}
 use Rattle.ws_http.specs.RequestStages.{Reading, Feeds, verdict, fresh}
 use Rattle.ws_http.specs.Pieces.{Step, Fed_with, AnswersAre}
 use Rattle.ws_http.proofs.StayLemmas.{final_stays}

@@ -1,10 +1,10 @@
 -- What is final on some bytes stays so behind more bytes.
-use Rattle.std.proofs.Common.{◌≡◌, ℕ, ◌+◌, ◌-◌, ◌<◌, ◌≤◌, Bool, true, false, cond, List, [], ◌∷◌, ◌++◌, length, take, drop, refl, sym, ap, ◌∙◌, subst, arith, append_assoc, append-nil, length-append, length-drop, length-take}
+use Rattle.std.proofs.Common.{◌≡◌, ℕ, ◌+◌, ◌<◌, ◌≤◌, Bool, true, false, cond, List, [], ◌∷◌, ◌++◌, length, take, drop, refl, sym, ap, ◌∙◌, subst, arith, append_assoc, length-append, length-drop, length-take}
 use Rattle.std.specs.Prelude.{nat_lt, nat_le, ◌==◌, ◌&&◌, MatchBool}
 use Rattle.std.proofs.lemmas.Bool.{false≢true}
 use Rattle.std.proofs.lemmas.Bool.Decides.{nat_tests}
 use Rattle.std.proofs.lemmas.List.{take-append-le, drop-append-le}
-use Rattle.httparse.specs.Grammar.{RequestHead, print_request, ReadsRequest, NeverHasRequest, LineEnd, Field, print_section, ReadsSection, NeverHasSection, ChunkLine, print_chunk_line, ReadsChunkLine, NeverHasChunkLine}
+use Rattle.httparse.specs.Grammar.{RequestHead, print_request, ReadsRequest, print_section, ReadsSection, NeverHasSection, print_chunk_line, ReadsChunkLine}
 use Rattle.ws_http.specs.declared.fed.BadWhy.{BadWhy}
 use Rattle.ws_http.specs.declared.fed.BadWhy.TheVariants as why
 use Rattle.ws_http.specs.declared.head.Framing.{Framing}
@@ -17,10 +17,9 @@ use Rattle.ws_http.specs.declared.chunk.Section.{Section}
 use Rattle.ws_http.specs.declared.chunk.Section.TheVariants as section
 use Rattle.ws_http.specs.declared.chunk.Next.{Next}
 use Rattle.ws_http.specs.declared.chunk.Next.TheVariants as next
-use Rattle.ws_http.specs.Heads.{Judges, IsSound}
+use Rattle.ws_http.specs.Heads.{Judges}
 use Rattle.ws_http.specs.Chunks.{After, Follows, LineIs, SectionIs, LineNext, TrailerNext, trailer_next, end_next, print_chunks}
 use Rattle.ws_http.specs.Requests.{Verdict, unfinished, headed, whole, bad, is_final, fixed_verdict, Ends, ChunkedVerdict, FramedVerdict, HeadVerdict, IsRequest}
-use Rattle.ws_http.specs.RequestStages.{HasHead}
 use Rattle.ws_http.proofs.StageLemmas.{fixed_by}
 use Rattle.ws_http.proofs.ReaderLemmas.{front_more, head_more}
 
@@ -41,13 +40,13 @@ not_final v w e is_not is_so = false≢true (sym is_not ∙ ap is_final (sym e) 
 -- ---- what stands where a chunk should begin
 
 -- an answer that is final there
-abbrev IsLast : Next → Type 0
+abbrev pub IsLast : Next → Type 0
 IsLast next.Open = ⊥
 IsLast next.Wrong = Unit {0}
 IsLast (next.Chunk l s) = ⊥
 IsLast (next.Last used) = Unit {0}
 
-not_open : (n : Next) → n ≡ next.Open → IsLast n → ⊥
+pub not_open : (n : Next) → n ≡ next.Open → IsLast n → ⊥
 not_open n e last = subst IsLast e last
 
 end_one : (a : Bool) (n : Next) → n ≡ cond a next.Open next.Wrong → IsLast n → (a ≡ false) × (n ≡ next.Wrong)
@@ -62,7 +61,7 @@ end_more (a ∷ []) (b ∷ z) len size n last e =
     w.1 ∙ sym (ap (λ (t : Bool). cond (t && (b == 10)) (next.Chunk len size) next.Wrong) w.0)
 end_more (a ∷ b ∷ x) z len size n last e = e
 
-end_inside : (x : List ℕ) (len size : ℕ) (n : Next) → IsLast n → n ≡ end_next len size x → 0 < length x
+pub end_inside : (x : List ℕ) (len size : ℕ) (n : Next) → IsLast n → n ≡ end_next len size x → 0 < length x
 end_inside [] len size n last e = absurd (not_open n e last)
 end_inside (a ∷ x) len size n last e = omega arith
 
@@ -109,7 +108,7 @@ trailer_by after z len n (section.Whole k) last is e =
     let y = front_more 16384 after z in
     (section.Whole k, subst (λ (t : List ℕ). SectionIs t (section.Whole k)) (sym y.1) (section_more (take 16384 after) y.0 k is), e)
 
-line_more : (x z : List ℕ) (len size : ℕ) → LineIs x (line.Whole len size) → LineIs (x ++ z) (line.Whole len size)
+pub line_more : (x z : List ℕ) (len size : ℕ) → LineIs x (line.Whole len size) → LineIs (x ++ z) (line.Whole len size)
 line_more x z len size l = (
   l.0,
   (
@@ -122,7 +121,7 @@ line_more x z len size l = (
   omega (arith, l.4, length-append x z),
 )
 
-next_by : (after z : List ℕ) (len size : ℕ) (n : Next) (b : Bool) → IsLast n
+pub next_by : (after z : List ℕ) (len size : ℕ) (n : Next) (b : Bool) → IsLast n
     → MatchBool b (TrailerNext len after n) (n ≡ end_next len size (drop size after))
     → MatchBool b (TrailerNext len (after ++ z) n) (n ≡ end_next len size (drop size (after ++ z)))
 next_by after z len size n true last m = trailer_by after z len n m.0 last m.1 m.2

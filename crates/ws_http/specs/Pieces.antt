@@ -1,5 +1,6 @@
 -- A request that comes in pieces: what is said to each piece, by the bytes of all pieces so far.
-use Rattle.std.specs.Prelude.{◌≡◌, ℕ, ◌≤◌, true, if◌then◌else◌, List, [], ◌∷◌, ◌++◌, length, ⊤}
+use Rattle.std.specs.Prelude.{◌≡◌, ℕ, ◌≤◌, true, if◌then◌else◌, List, [], ◌∷◌, ◌++◌, length, take, ⊤}
+use Rattle.httparse.specs.Grammar.{EndsInTarget}
 use Rattle.ws_http.specs.declared.fed.Fed.{Fed}
 use Rattle.ws_http.specs.Requests.{Verdict, unfinished, is_final, said, said_again, IsRequest}
 use Rattle.ws_http.specs.RequestStages.{Reading, Feeds, verdict, fresh}
@@ -29,6 +30,12 @@ abbrev pub FinalStays : Type 0
 FinalStays =
     (room : ℕ) (bytes more : List ℕ) (v : Verdict) → 16384 ≤ room → is_final v ≡ true → IsRequest room bytes v
     → IsRequest room (bytes ++ more) v
+
+-- The bytes of a request have one verdict, but where the first 16,384 of them end inside a target: there a
+-- target that can't become text may be refused or waited for.
+abbrev pub OneVerdict : Type 0
+OneVerdict =
+    (room : ℕ) (bytes : List ℕ) (v w : Verdict) → ¬ (EndsInTarget (take 16384 bytes)) → IsRequest room bytes v → IsRequest room bytes w → v ≡ w
 
 -- For every list of pieces the answers are those on the pieces joined.
 abbrev pub InAnyPieces : Type 0

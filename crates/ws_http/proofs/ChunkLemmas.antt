@@ -15,15 +15,10 @@ use Rattle.ws_http.specs.declared.chunk.Next.TheVariants as next
 use Rattle.ws_http.specs.Chunks.{Follows, LineIs, LineNext, TrailerNext, trailer_next, end_next, Chunk, IsChunk, print_chunk, print_chunks, chunk_data, After}
 
 -- behind a line with the size 0 stands the trailer section
-pub follows_last : (rest : List ℕ) (len size : ℕ) (n : Next) → LineIs rest (line.Whole len size) → size ≡ 0
-    → TrailerNext len (drop len rest) n → Follows rest n
-unfolding Follows
-follows_last rest len size n is zero t = (
-  line.Whole len size,
-  is,
-  subst (λ (b : Bool). MatchBool b (TrailerNext len (drop len rest) n)
-      (n ≡ end_next len size (drop size (drop len rest)))) (sym (eq-eqb size 0 zero)) t,
-)
+pub behind_last : (rest : List ℕ) (len size : ℕ) (n : Next) → size ≡ 0 → TrailerNext len (drop len rest) n → LineNext rest (line.Whole len size) n
+behind_last rest len size n zero t =
+    subst (λ (b : Bool). MatchBool b (TrailerNext len (drop len rest) n) (n ≡ end_next len size (drop size (drop len rest))))
+    (sym (eq-eqb size 0 zero)) t
 
 -- a chunk was found: its line's length and its size
 pub record Found (rest : List ℕ) (len size : ℕ) : Type 0 where
@@ -32,7 +27,7 @@ pub record Found (rest : List ℕ) (len size : ℕ) : Type 0 where
   pub more : List ℕ
   pub end : drop size (drop len rest) ≡ 13 ∷ 10 ∷ more
 
-no_chunk_by : (b : Bool) (l s : ℕ) → next.Chunk l s ≡ cond b next.Wrong next.Open → ⊥
+pub no_chunk_by : (b : Bool) (l s : ℕ) → next.Chunk l s ≡ cond b next.Wrong next.Open → ⊥
 no_chunk_by true l s e = cc
 no_chunk_by false l s e = cc
 
@@ -40,7 +35,7 @@ no_chunk_else : (b : Bool) (l s : ℕ) → next.Chunk l s ≡ cond b next.Open n
 no_chunk_else true l s e = cc
 no_chunk_else false l s e = cc
 
-no_trailer_chunk : (k came : ℕ) (s : Section) (l n : ℕ) → next.Chunk l n ≡ trailer_next k came s → ⊥
+pub no_trailer_chunk : (k came : ℕ) (s : Section) (l n : ℕ) → next.Chunk l n ≡ trailer_next k came s → ⊥
 no_trailer_chunk k came section.Open l n e = no_chunk_by _ l n e
 no_trailer_chunk k came section.Never l n e = cc
 no_trailer_chunk k came (section.Whole len) l n e = cc
@@ -50,7 +45,7 @@ chunk_by : (b : Bool) (l s len size : ℕ) → next.Chunk l s ≡ cond b (next.C
 chunk_by true l s len size e = (refl, cc, cc)
 chunk_by false l s len size e = absurd (no_chunk_by true l s e)
 
-end_found : (x : List ℕ) (l s len size : ℕ) → next.Chunk l s ≡ end_next len size x
+pub end_found : (x : List ℕ) (l s len size : ℕ) → next.Chunk l s ≡ end_next len size x
     → (more : List ℕ) × (x ≡ 13 ∷ 10 ∷ more) × (l ≡ len) × (s ≡ size)
 end_found [] l s len size e = absurd (no_chunk_by false l s e)
 end_found (a ∷ []) l s len size e = absurd (no_chunk_else (a == 13) l s e)

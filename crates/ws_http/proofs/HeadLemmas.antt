@@ -40,7 +40,7 @@ length_request h =
     let before = print_blank h.blank ++ h.method ++ 32 ∷ h.target ++ 32 ∷ print_version h.minor ++ print_end h.line_end in
     omega (arith, length-append before (print_section h.fields h.last), length-append (flat_map print_field h.fields) (print_end h.last))
 
-length_response : (h : ResponseHead) → length (flat_map print_field h.fields) ≤ length (print_response h)
+pub length_response : (h : ResponseHead) → length (flat_map print_field h.fields) ≤ length (print_response h)
 unfolding print_response
 length_response h =
     let before = print_blank h.blank ++ print_version h.minor ++ 32 ∷ h.digits ++ print_reason h.reason ++ print_end h.line_end in

@@ -6,3 +6,11 @@ pub mod ReaderLemmas
 pub mod PartLemmas
 pub mod StayLemmas
 pub mod PieceLemmas
+pub mod ExtentLemmas
+pub mod ReplyLemmas
+pub mod ReplyStageLemmas
+pub mod ReplyReaderLemmas
+pub mod ReplyPartLemmas
+pub mod FitLemmas
+pub mod OutcomeLemmas
+pub mod ReplyStayLemmas

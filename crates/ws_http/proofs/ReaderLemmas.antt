@@ -73,14 +73,14 @@ final_last (stage.Chunked head at) raw body = refl
 final_last (stage.Whole head total chunked) raw body = refl
 final_last (stage.Bad reason sound) raw body = refl
 
-take_over : (n : ℕ) (b p : List ℕ) → length b ≤ n → take n (b ++ p) ≡ b ++ take (n - length b) p
+pub take_over : (n : ℕ) (b p : List ℕ) → length b ≤ n → take n (b ++ p) ≡ b ++ take (n - length b) p
 take_over n [] p le = let same : n ≡ n - 0 = omega arith in ap (λ (k : ℕ). take k p) same
 take_over zero (x ∷ b) p le = absurd (omega arith)
 take_over (suc n) (x ∷ b) p le =
     let same : n - length b ≡ suc n - suc (length b) = omega arith in
     ap (λ (t : List ℕ). x ∷ t) (take_over n b p (omega arith)) ∙ ap (λ (k : ℕ). x ∷ (b ++ take k p)) same
 
-over_by : (room b p : ℕ) (t : Bool) → nat_lt (room - b) p ≡ t → b ≤ room → nat_lt room (b + p) ≡ t
+pub over_by : (room b p : ℕ) (t : Bool) → nat_lt (room - b) p ≡ t → b ≤ room → nat_lt room (b + p) ≡ t
 over_by room b p true e le = grind (arith, nat_tests, e)
 over_by room b p false e le = grind (arith, nat_tests, e)
 

@@ -86,11 +86,11 @@ chunks_begin raw body head empty inside = record {
   small = omega (arith, ap length empty);
 }
 
-or_true : (b : Bool) → b || true ≡ true
+pub or_true : (b : Bool) → b || true ≡ true
 or_true true = refl
 or_true false = refl
 
-or_false : (b : Bool) → b || false ≡ b
+pub or_false : (b : Bool) → b || false ≡ b
 or_false true = refl
 or_false false = refl
 
@@ -118,7 +118,7 @@ head_open room raw bytes over b least e t past is =
 
 -- ---- a declared length
 
-content_same : (room head n : ℕ) (raw bytes : List ℕ) → take room bytes ≡ raw → head + n ≤ room
+pub content_same : (room head n : ℕ) (raw bytes : List ℕ) → take room bytes ≡ raw → head + n ≤ room
     → take n (drop head raw) ≡ take n (drop head bytes)
 content_same room head n raw bytes e fits =
     let sum : head + (room - head) ≡ room = omega arith in

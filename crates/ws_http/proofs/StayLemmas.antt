@@ -41,13 +41,13 @@ not_final v w e is_not is_so = false≢true (sym is_not ∙ ap is_final (sym e) 
 -- ---- what stands where a chunk should begin
 
 -- an answer that is final there
-abbrev IsLast : Next → Type 0
+abbrev pub IsLast : Next → Type 0
 IsLast next.Open = ⊥
 IsLast next.Wrong = Unit {0}
 IsLast (next.Chunk l s) = ⊥
 IsLast (next.Last used) = Unit {0}
 
-not_open : (n : Next) → n ≡ next.Open → IsLast n → ⊥
+pub not_open : (n : Next) → n ≡ next.Open → IsLast n → ⊥
 not_open n e last = subst IsLast e last
 
 end_one : (a : Bool) (n : Next) → n ≡ cond a next.Open next.Wrong → IsLast n → (a ≡ false) × (n ≡ next.Wrong)
@@ -62,7 +62,7 @@ end_more (a ∷ []) (b ∷ z) len size n last e =
     w.1 ∙ sym (ap (λ (t : Bool). cond (t && (b == 10)) (next.Chunk len size) next.Wrong) w.0)
 end_more (a ∷ b ∷ x) z len size n last e = e
 
-end_inside : (x : List ℕ) (len size : ℕ) (n : Next) → IsLast n → n ≡ end_next len size x → 0 < length x
+pub end_inside : (x : List ℕ) (len size : ℕ) (n : Next) → IsLast n → n ≡ end_next len size x → 0 < length x
 end_inside [] len size n last e = absurd (not_open n e last)
 end_inside (a ∷ x) len size n last e = omega arith
 
@@ -109,7 +109,7 @@ trailer_by after z len n (section.Whole k) last is e =
     let y = front_more 16384 after z in
     (section.Whole k, subst (λ (t : List ℕ). SectionIs t (section.Whole k)) (sym y.1) (section_more (take 16384 after) y.0 k is), e)
 
-line_more : (x z : List ℕ) (len size : ℕ) → LineIs x (line.Whole len size) → LineIs (x ++ z) (line.Whole len size)
+pub line_more : (x z : List ℕ) (len size : ℕ) → LineIs x (line.Whole len size) → LineIs (x ++ z) (line.Whole len size)
 line_more x z len size l = (
   l.0,
   (
@@ -122,7 +122,7 @@ line_more x z len size l = (
   omega (arith, l.4, length-append x z),
 )
 
-next_by : (after z : List ℕ) (len size : ℕ) (n : Next) (b : Bool) → IsLast n
+pub next_by : (after z : List ℕ) (len size : ℕ) (n : Next) (b : Bool) → IsLast n
     → MatchBool b (TrailerNext len after n) (n ≡ end_next len size (drop size after))
     → MatchBool b (TrailerNext len (after ++ z) n) (n ≡ end_next len size (drop size (after ++ z)))
 next_by after z len size n true last m = trailer_by after z len n m.0 last m.1 m.2

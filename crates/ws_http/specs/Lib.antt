@@ -5,3 +5,9 @@ pub mod Chunks
 pub mod Requests
 pub mod RequestStages
 pub mod Pieces
+pub mod ResponseFields
+pub mod Responses
+pub mod ResponseHeads
+pub mod ResponseStages
+pub mod ResponseData
+pub mod ResponseHeadsEnd

@@ -1,6 +1,6 @@
 // What stands at a place of a chunked body where a chunk should begin.
 ghost use Rattle.std.specs.Prelude.{◌≡◌, ◌+◌, ◌≤◌, ◌<◌, ◌^◌, drop, length};
-ghost use Rattle.ws_http.specs.Chunks.{Follows, LineIs, SectionIs, TrailerNext, NextWithin, end_next};
+ghost use Rattle.ws_http.specs.Chunks.{Follows, LineIs, LineNext, SectionIs, TrailerNext, NextWithin, end_next};
 
 use crate::head::{MAX_FIELDS, MAX_HEAD, front_of};
 use httparse::spans::{HeaderSpan, parse_headers};
@@ -19,6 +19,7 @@ pub enum Next {
 }
 
 /// A chunk line at the front of the bytes: its length and the size that it writes.
+#[derive(Clone, Copy)]
 pub enum Line {
     Open,
     Never,
@@ -38,7 +39,16 @@ pub fn next_chunk(rest: &[u8]) -> Next
     ensures follows { Follows rest.now result }
     ensures within { NextWithin (length rest.now) result }
 {
-    match read_line(rest) {
+    behind_line(rest, read_line(rest))
+}
+
+/// What stands at the front of the bytes, by the chunk line there.
+pub fn behind_line(rest: &[u8], line: Line) -> Next
+    requires { LineIs rest.now line }
+    ensures follows { LineNext rest.now line result }
+    ensures within { NextWithin (length rest.now) result }
+{
+    match line {
         Line::Open => Next::Open,
         Line::Never => Next::Wrong,
         Line::Whole(len, size) => {
@@ -52,8 +62,8 @@ pub fn next_chunk(rest: &[u8]) -> Next
     }
 }
 
-// The chunk line at the front of the bytes.
-fn read_line(rest: &[u8]) -> Line
+/// The chunk line at the front of the bytes.
+pub fn read_line(rest: &[u8]) -> Line
     ensures { LineIs rest.now result }
 {
     match parse_chunk_size(rest) {

@@ -51,8 +51,8 @@ pub fn front_of(bytes: &[u8]) -> &[u8]
     }
 }
 
-// Whether a field has that name, whatever the case of its letters.
-fn is_called(buf: &[u8], header: &HeaderSpan, name: &[u8]) -> bool
+/// Whether a field has that name, whatever the case of its letters.
+pub fn is_called(buf: &[u8], header: &HeaderSpan, name: &[u8]) -> bool
     requires { IsHeaderWithin (length buf.now) header.now }
     ensures { result ≡ is_named name.now (header_bytes buf.now header.now) }
 {

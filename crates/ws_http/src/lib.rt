@@ -2,16 +2,23 @@
 #![tactic(auto)]
 
 mod chunk;
+mod extent;
 mod fed;
 mod head;
 pub mod laws;
 mod parts;
+mod reply;
+mod reply_data;
+mod reply_head;
+mod reply_stage;
 mod request;
+mod response;
 mod stage;
 mod write;
 
 pub use fed::{BadWhy, Fed, Need};
 pub use request::RequestReader;
+pub use response::ResponseReader;
 pub use write::{no_memory_answer, write_request, write_response};
 
 #[cfg(test)]

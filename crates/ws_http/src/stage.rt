@@ -92,8 +92,8 @@ fn read_fixed(raw: &[u8], room: usize, over: bool, head: usize, total: usize) ->
     }
 }
 
-// Whether more bytes came than a head may have.
-fn passes_head(raw: &[u8], over: bool) -> bool
+/// Whether more bytes came than a head may have.
+pub fn passes_head(raw: &[u8], over: bool) -> bool
     ensures { result ≡ (nat_lt 16384 (length raw.now) || over) }
 {
     raw.len() > MAX_HEAD || over

@@ -7,8 +7,8 @@ ghost use Rattle.ws_http.specs.Texts.{request_text, response_text, phrase, is_an
 use std::alloc::Global;
 use ws_model::{Bytes, NoMemory, Pair};
 
-// Puts the bytes behind the text.
-fn put(text: &mut Vec<u8>, bytes: &[u8]) -> Result<(), NoMemory>
+/// Puts the bytes behind the text.
+pub fn put(text: &mut Vec<u8>, bytes: &[u8]) -> Result<(), NoMemory>
     ensures { OnOk result (text.new.items ≡ text.old.items ++ bytes.now) }
 {
     text.extend_from_slice(bytes)?;

@@ -1,0 +1,12 @@
+use Rattle.std.proofs.Common.{sym, refl}
+use Rattle.ws_http.specs.Responses.{unfinished}
+use Rattle.ws_http.proofs.ReplyLemmas.{nothing_came}
+use Rattle.ws_http.proofs.response.ResponseReader.made.Goals as goal
+
+pub returns-clause-stands : goal.returns-clause-stands
+returns-clause-stands c = record {
+  verdict = unfinished;
+  is = nothing_came c.args.need;
+  says = refl;
+  kept = λ _. c.in_ok-raw.ensures.items;
+}

@@ -1,0 +1,150 @@
+// The reader of a response that comes in any pieces.
+ghost use Rattle.std.specs.Prelude.{◌≡◌, ◌≤◌, IfOk, IsOk, ℕ, List, [], Bool, true, false, length};
+ghost use Rattle.ws_http.specs.ResponseFields.{kept_of};
+ghost use Rattle.ws_model.specs.declared.work.Outcome.TheVariants as outcome;
+ghost use Rattle.ws_model.specs.Fit.{is_fit_reply};
+ghost use Rattle.ws_http.specs.Responses.{Got, fault_outcome};
+ghost use Rattle.ws_http.specs.ResponseStages.{is_status, is_whole, is_last, kept_content};
+
+use crate::head::front_of;
+use crate::reply::build;
+use crate::reply_data::{SHORT, first};
+use crate::reply_head::FinalHead;
+use crate::reply_stage::{
+    ReplyStage, closed, is_full, is_status, reply_again, reply_told, room_of, take_piece,
+};
+use crate::{Fed, Need};
+use std::alloc::Global;
+use std::marker::Model;
+use ws_model::{Bytes, NoMemory, Reply};
+
+/// A reader of one response, which comes in any pieces (RFC 9112).
+///
+/// Interim heads (100 to 199) are read over. The heads have at most 16,384 bytes together, a body has
+/// at most 4,194,304, and a chunked one at most 8,388,608 with its chunk lines and trailers.
+#[derive(Drop)]
+pub struct ResponseReader {
+    alloc: Global,
+    need: Need,
+    raw: Vec<u8>,
+    body: Vec<u8>,
+    stage: ReplyStage,
+}
+
+impl Model for ResponseReader {
+    ghost use Rattle.ws_http.specs.ResponseStages.{ReplyReading};
+    ghost use Rattle.ws_http.specs.ResponseStages.{IsReplyReader};
+    ghost use Rattle.std.specs.Vec.{vec_capacity};
+
+    ghost Value = { ReplyReading };
+
+    ghost view = { λ r. record { need = r.need; bytes = r.raw.items; content = r.body.items; stage = r.stage } };
+
+    ghost invariant = { λ r. IsReplyReader r.need r.raw.items r.body.items r.stage (vec_capacity r.raw) (vec_capacity r.body) };
+}
+
+// The part of a body of declared or of open length that is kept.
+fn kept_front(need: Need, content: &[u8]) -> &[u8]
+    ensures { result.now ≡ kept_of need content.now }
+{
+    match need {
+        Need::Status => first(content, 0),
+        Need::Short => first(content, SHORT),
+        Need::Full => content,
+    }
+}
+
+// The part of the body that is kept.
+fn content(
+    alloc: Global,
+    need: Need,
+    raw: &[u8],
+    body: Vec<u8>,
+    head: FinalHead,
+    total: usize,
+    chunked: bool,
+) -> Result<Bytes, NoMemory>
+    requires ordered { head.start ≤ total }
+    requires inside { chunked ≡ false → total ≤ length raw.now }
+    ensures value { IfOk result (λ b. b ≡ kept_content need raw.now body.items head.start total chunked) }
+    ensures status { is_status need ≡ true → IsOk result }
+{
+    if is_status(need) {
+        return Ok(Bytes::from_vec(Vec::new(alloc)));
+    }
+    if chunked {
+        return Ok(Bytes::from_vec(body));
+    }
+    Bytes::copy(alloc, kept_front(need, &raw[head.start..total]))
+}
+
+impl ResponseReader {
+    ghost use Rattle.ws_http.specs.ResponseStages.{ReplyReading, FeedsReply, Stands, fresh_reply};
+
+    /// A reader that keeps so much of the response.
+    ///
+    /// It takes its memory when it is made, but for a whole body. A chunk line has no limit of its
+    /// own, so for a short body that is room for 8,404,992 bytes.
+    pub fn made(alloc: Global, need: Need) -> Result<ResponseReader, NoMemory>
+        ensures fresh { IfOk result (λ r. r ≡ fresh_reply need) }
+        ensures stands { IfOk result (λ r. Stands r [] false) }
+    {
+        let (room, most) = if is_full(need) {
+            (0, 0)
+        } else {
+            (room_of(need), SHORT)
+        };
+        let raw = Vec::with_capacity(alloc, room)?;
+        let body = Vec::with_capacity(alloc, most)?;
+        Ok(ResponseReader {
+            alloc,
+            need,
+            raw,
+            body,
+            stage: ReplyStage::Head(0),
+        })
+    }
+
+    /// Takes the next piece of the bytes, with the connection's end behind it or not, and says what
+    /// the bytes so far are.
+    ///
+    /// After Whole or Bad each later feed says the same, with `used` 0. NoMemory comes only where all
+    /// of the body is kept, and then each later feed says it again.
+    pub fn feed(&mut self, piece: &[u8], end: bool) -> Fed
+        ensures feeds { FeedsReply self.old piece.now end self.new result }
+    {
+        if let Some(answer) = reply_again(self.stage) {
+            return answer;
+        }
+        let before = self.raw.len();
+        let old = self.stage;
+        let new = take_piece(&mut self.raw, &mut self.body, self.need, piece, old);
+        self.stage = closed(end, self.raw.len(), new);
+        reply_told(before, old, self.stage)
+    }
+
+    /// The reply of a whole message. NoMemory is the one error, and doesn't come of the status alone.
+    pub fn into_reply(self) -> Result<Reply, NoMemory>
+        requires { is_whole self.stage ≡ true }
+        ensures got { IfOk result (λ r. (came : List ℕ) (ended : Bool) → Stands self came ended → Got self.need came ended (outcome.Reply r)) }
+        ensures fit { IfOk result (λ r. is_fit_reply r ≡ true) }
+        ensures status { is_status self.need ≡ true → IsOk result }
+    {
+        let ResponseReader {
+            alloc,
+            need,
+            raw,
+            body,
+            stage,
+        } = self;
+        match stage {
+            ReplyStage::Whole(head, total, chunked) => {
+                let kept = content(alloc, need, &raw, body, head, total, chunked)?;
+                let (_, rest) = front_of(&raw).split_at(head.at);
+                let reply = build(alloc, need, rest, kept)?;
+                Ok(reply)
+            }
+            _ => unreachable!(),
+        }
+    }
+}

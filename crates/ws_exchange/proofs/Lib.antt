@@ -1,0 +1,4 @@
+pub mod Told
+pub mod Uncut
+pub mod Heard
+pub mod Turns

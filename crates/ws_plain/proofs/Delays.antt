@@ -1,5 +1,5 @@
 -- Waits after misses, and fates as a program can say them.
-use Rattle.std.proofs.Common.{◌≡◌, ◌≢◌, ℕ, zero, suc, ◌+◌, ◌≤◌, ◌<◌, List, [], ◌∷◌, refl, ap, get_or, arith, add-zero}
+use Rattle.std.proofs.Common.{◌≡◌, ℕ, zero, suc, ◌+◌, ◌≤◌, refl, arith}
 use Rattle.ws_model.specs.declared.fate.Fate.{Fate}
 use Rattle.ws_model.specs.declared.fate.Fate.TheVariants.{Answered, Owed, Ended}
 use Rattle.ws_model.specs.Fate.{delay, is_owed, next_by}

@@ -1,12 +1,12 @@
 -- Accounts put together, and counts with those of a Tally.
-use Rattle.std.proofs.Common.{◌≡◌, ℕ, ◌+◌, Bool, List, [], ◌∷◌, length, refl, sym, ap, ◌∙◌}
+use Rattle.std.proofs.Common.{◌≡◌, ℕ, ◌+◌, List, [], ◌∷◌, length, refl, ap, ◌∙◌}
 use Rattle.std.specs.Prelude.{filter, map, min, Option, Some, None}
 use Rattle.std.specs.Option.{option_map}
 use Rattle.ws_model.specs.declared.account.Account.{Account}
 use Rattle.ws_model.specs.declared.event.Event.{Event}
 use Rattle.ws_model.specs.declared.event.Tally.{Tally}
 use Rattle.ws_model.specs.declared.fate.Fate.{Fate}
-use Rattle.ws_model.specs.Account.{first_or_zero, most, tallied, tallies, total}
+use Rattle.ws_model.specs.Account.{first_or_zero, most, tallies, total}
 use Rattle.ws_model.specs.Fate.{Pair, fate}
 use Rattle.ws_model.specs.Pairs.{pairs}
 use Rattle.ws_plain.specs.Alike.{alike}

@@ -1,5 +1,5 @@
 -- What is kept, by what a compaction has found out beforehand (own).
-use Rattle.std.specs.Prelude.{◌≡◌, ℕ, Bool, false, ◌&&◌, ◌||◌, List, nat_lt, ◌==◌, bytes_eq}
+use Rattle.std.specs.Prelude.{ℕ, Bool, false, ◌&&◌, ◌||◌, List, nat_lt, ◌==◌, bytes_eq}
 use Rattle.std.specs.List.{list_any}
 use Rattle.ws_model.specs.declared.event.Event.{Event}
 use Rattle.ws_model.specs.declared.event.Intent.{Intent}

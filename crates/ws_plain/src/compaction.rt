@@ -1,5 +1,5 @@
 // What a compaction keeps of a history.
-ghost use Rattle.std.specs.Prelude.{◌≡◌, ◌+◌, ◌≤◌, ◌&&◌, IfOk, filter, length, min, not};
+ghost use Rattle.std.specs.Prelude.{◌≡◌, ◌+◌, ◌&&◌, IfOk, filter, length, min, not};
 ghost use Rattle.ws_model.specs.Account.{most};
 ghost use Rattle.ws_model.specs.Fate.{fate};
 ghost use Rattle.ws_model.specs.Keep.{keep, tally};
@@ -181,7 +181,8 @@ fn tally(alloc: Global, events: &[Event], findings: &Findings, t: u64) -> Result
     })
 }
 
-/// What a compaction at a time in seconds keeps, oldest first: a Tally, and the kept events.
+/// What a compaction at a time in seconds keeps of events, both oldest first: a Tally, and the kept
+/// events. It fails only for want of memory.
 pub fn keep(alloc: Global, events: &[Event], t: u64) -> Result<Vec<Event>, NoMemory>
     ensures { IfOk result (λ v. past v.items ≡ keep (past events.now) t) }
 {

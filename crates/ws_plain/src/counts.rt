@@ -1,5 +1,5 @@
 // What a history amounts to at a moment.
-ghost use Rattle.std.specs.Prelude.{◌≡◌, ◌+◌, ◌≤◌, IfOk, filter, length, min};
+ghost use Rattle.std.specs.Prelude.{◌≡◌, ◌+◌, IfOk, filter, length, min};
 ghost use Rattle.ws_model.specs.Account.{account, is_ended, most};
 ghost use Rattle.ws_model.specs.Fate.{fate};
 ghost use Rattle.ws_plain.specs.Alike.{alike};
@@ -40,7 +40,8 @@ fn ended(events: &[Event], pairs: &[Pair], t: u64, cause: Cause, tallied: u64) -
     total(events, pairs, t, Fate::Ended(cause), tallied)
 }
 
-/// The account at a time in seconds.
+/// The account at a time in seconds, of events that are given oldest first, with the pairs that a Tally
+/// says were forgotten. It fails only for want of memory.
 pub fn account(alloc: Global, events: &[Event], t: u64) -> Result<Account, NoMemory>
     ensures { IfOk result (λ a. a ≡ account (past events.now) t) }
 {

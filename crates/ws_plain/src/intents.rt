@@ -29,7 +29,8 @@ fn is_pending_number(events: &[Event], n: u64) -> bool
     !has(events, &Sought::Settled(n)) && times(events, &Sought::Unheard(n)) < 3
 }
 
-/// The pending intents, the newest first.
+/// The pending intents of events that are given oldest first, the newest intent first (WebSub sections
+/// 5.1 to 5.3). It fails only for want of memory.
 pub fn pending(alloc: Global, events: &[Event]) -> Result<Vec<Intent>, NoMemory>
     ensures { IfOk result (λ v. v.items ≡ pending (past events.now)) }
 {
@@ -46,7 +47,8 @@ fn is_owed_notice_number(events: &[Event], n: u64) -> bool
         && times(events, &Sought::Noticed(n, false)) < 3
 }
 
-/// The intents whose denial notice is owed, the newest first.
+/// The intents whose denial notice is owed, of events that are given oldest first, the newest intent
+/// first (WebSub section 5.2). It fails only for want of memory.
 pub fn notices(alloc: Global, events: &[Event]) -> Result<Vec<Intent>, NoMemory>
     ensures { IfOk result (λ v. v.items ≡ notices (past events.now)) }
 {

@@ -165,7 +165,8 @@ pub(crate) fn lease_end(events: &[Event], lease: &Lease, t: u64) -> Option<Cause
     is_expired(lease, t).then_some(Cause::Expired)
 }
 
-/// The leases that are live at a time in seconds, the newest first.
+/// The leases that are live at a time in seconds, of events that are given oldest first, the newest
+/// lease first (WebSub section 5.3). It fails only for want of memory.
 pub fn live(alloc: Global, events: &[Event], t: u64) -> Result<Vec<Lease>, NoMemory>
     ensures { IfOk result (λ v. v.items ≡ live (past events.now) t) }
 {

@@ -92,8 +92,9 @@ pub(crate) fn owed(alloc: Global, events: &[Event], t: u64) -> Result<Vec<Pair>,
     Ok(pairs)
 }
 
-/// The fate at a time in seconds of the pair of a version and a lease, by their numbers, where there
-/// is such a pair. A next try past 2^64 - 1 is given as that number.
+/// The fate at a time in seconds of the pair of a version and a lease, by their numbers, where events
+/// that are given oldest first have such a pair (WebSub section 7). A next try past 2^64 - 1 is given as
+/// that number. It fails only for want of memory.
 pub fn fate(
     alloc: Global,
     events: &[Event],

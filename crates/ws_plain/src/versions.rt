@@ -1,5 +1,5 @@
 // Versions of topics (WebSub section 6), and the fetches that are owed.
-ghost use Rattle.std.specs.Prelude.{◌≡◌, ◌≤◌, ◌∷◌, IfOk, bytes_eq, find, length};
+ghost use Rattle.std.specs.Prelude.{◌≡◌, ◌≤◌, IfOk, bytes_eq, find, length};
 ghost use Rattle.std.specs.Option.{option_copied};
 ghost use Rattle.ws_model.specs.Versions.{is_owed_fetch, is_ping_at, is_version, latest, latest_of, missed_fetches, pings, versions, fetches};
 ghost use Rattle.ws_plain.specs.Past.{past};

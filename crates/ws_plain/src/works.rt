@@ -1,7 +1,7 @@
 // The work that is due at a moment, in its order.
 ghost use Rattle.std.specs.Prelude.{◌≡◌, ◌++◌, ◌&&◌, IfOk, filter, map, nat_le, nat_lt, not};
 ghost use Rattle.std.specs.List.{list_any};
-ghost use Rattle.ws_model.specs.Due.{due, due_fetches, due_notices, due_pairs, due_pushes, due_verifications, is_behind, is_out, same_work};
+ghost use Rattle.ws_model.specs.Due.{due, due_fetches, due_notices, due_pushes, due_verifications, is_behind, is_out, same_work};
 ghost use Rattle.ws_model.specs.Fate.{next};
 ghost use Rattle.ws_model.specs.Intents.{same_pair};
 ghost use Rattle.ws_model.specs.declared.work.Work.TheVariants as work;
@@ -172,7 +172,8 @@ fn all_due(alloc: Global, events: &[Event], t: u64) -> Result<Vec<Work>, NoMemor
     Ok(works)
 }
 
-/// The work that is due at a time in seconds, in its order, without the work whose tickets are out.
+/// The work that is due at a time in seconds, of events that are given oldest first, in its order and
+/// without the work whose tickets are out. It fails only for want of memory.
 pub fn due(alloc: Global, events: &[Event], t: u64, out: &[Work]) -> Result<Vec<Work>, NoMemory>
     ensures { IfOk result (λ v. v.items ≡ due (past events.now) t out.now) }
 {

@@ -1,6 +1,6 @@
 -- What the table answers, for a history for which it stands.
-use Rattle.std.proofs.Common.{Bor, ◌≡◌, ℕ, ◌≤◌, ◌<◌, ◌-◌, ◌^◌, Bool, true, false, cond, ◌&&◌, List, [], ◌∷◌, refl, ap, sym, ◌∙◌, subst, length, arith}
-use Rattle.std.specs.Prelude.{nat_lt, nat_le, is_some, min, Option, Some, None, IfSome, IsSomeAnd, map, filter, find, option_map, ◌==◌, bytes_eq}
+use Rattle.std.proofs.Common.{Bor, ◌≡◌, ℕ, ◌≤◌, ◌<◌, ◌^◌, Bool, true, false, cond, ◌&&◌, List, [], ◌∷◌, refl, ap, sym, ◌∙◌, subst, length, arith}
+use Rattle.std.specs.Prelude.{nat_lt, nat_le, is_some, Option, Some, None, IfSome, IsSomeAnd, map, filter, find, option_map, ◌==◌, bytes_eq}
 use Rattle.std.specs.List.{AllByRecursion, list_any, IsDistinct}
 use Rattle.std.specs.List.Sorted.{IsStrictlySortedBy}
 use Rattle.std.specs.Option.{option_copied}
@@ -10,7 +10,7 @@ use Rattle.std.specs.Ordering.{nat_cmp, eq_by_cmp}
 use Rattle.std.specs.Cmp.{nat_cmp_total, IsTotalOrder}
 use Rattle.std.specs.declared.cmp.Ordering.TheVariants.{Less}
 use Rattle.std.proofs.lemmas.Bool.Decides.{nat_tests}
-use Rattle.std.proofs.lemmas.Bool.{false≢true, eqb-true, false_from_ne_true, and_from, and_parts}
+use Rattle.std.proofs.lemmas.Bool.{false≢true, eqb-true, and_from, and_parts}
 use Rattle.std.proofs.lemmas.Slice.Eq.{bytes_eq-Decides}
 use Rattle.std.proofs.lemmas.Cmp.{eq_by_cmp_equiv, then_total}
 use Rattle.std.proofs.lemmas.List.{length-map}

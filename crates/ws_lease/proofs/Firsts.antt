@@ -1,5 +1,5 @@
 -- The least of the ends.
-use Rattle.std.proofs.Common.{◌≡◌, ℕ, ◌<◌, ◌≤◌, Bool, true, false, is_gt, arith}
+use Rattle.std.proofs.Common.{◌≡◌, ℕ, ◌≤◌, false, is_gt, arith}
 use Rattle.std.specs.Ordering.{nat_cmp, ordering_then}
 use Rattle.std.specs.declared.cmp.Ordering.{Ordering}
 use Rattle.std.proofs.lemmas.Bool.Decides.{nat_tests}

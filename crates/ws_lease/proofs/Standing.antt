@@ -1,25 +1,24 @@
 -- The table and the history.
-use Rattle.std.proofs.Common.{◌≡◌, ℕ, ◌≤◌, ◌<◌, Bool, true, false, cond, ◌&&◌, List, [], ◌∷◌, ◌++◌, refl, ap, sym, ◌∙◌, subst, arith}
-use Rattle.std.specs.Prelude.{nat_lt, is_none, is_some, max, Option, Some, None, IfSome, filter, find, ◌==◌, bytes_eq}
-use Rattle.std.specs.List.{AllByRecursion, list_any}
+use Rattle.std.proofs.Common.{◌≡◌, ℕ, ◌≤◌, Bool, true, false, cond, ◌&&◌, List, [], ◌∷◌, ◌++◌, refl, ap, sym, ◌∙◌, subst, arith}
+use Rattle.std.specs.Prelude.{nat_lt, is_none, max, Option, Some, None, IfSome, filter, find, ◌==◌, bytes_eq}
+use Rattle.std.specs.List.{AllByRecursion}
 use Rattle.std.proofs.lemmas.Bool.Decides.{nat_tests}
-use Rattle.std.proofs.lemmas.Bool.{false≢true, eqb-true, false_from_ne_true, or_left, or_right, and_parts, and_from}
+use Rattle.std.proofs.lemmas.Bool.{false≢true, eqb-true, false_from_ne_true, or_left, or_right}
 use Rattle.std.proofs.lemmas.Slice.Eq.{bytes_eq-Decides}
 use Rattle.ws_model.specs.declared.event.Event.{Event}
 use Rattle.ws_model.specs.declared.event.What.{What}
 use Rattle.ws_model.specs.declared.event.What.TheVariants.{Confirmed, Pushed, Revoked}
-use Rattle.ws_model.specs.declared.event.How.{How}
 use Rattle.ws_model.specs.declared.event.How.TheVariants.{Gone}
 use Rattle.ws_model.specs.declared.event.Mode.{Mode}
 use Rattle.ws_model.specs.declared.event.Mode.TheVariants.{On, Off}
 use Rattle.ws_model.specs.declared.event.Intent.{Intent}
 use Rattle.ws_model.specs.declared.lease.Lease.{Lease}
 use Rattle.ws_model.specs.declared.fate.Cause.{Cause}
-use Rattle.ws_model.specs.declared.fate.Cause.TheVariants.{Unsubscribed, Replaced, Gone as LeaseGone, Revoked as LeaseRevoked}
+use Rattle.ws_model.specs.declared.fate.Cause.TheVariants.{Replaced, Gone as LeaseGone, Revoked as LeaseRevoked}
 use Rattle.ws_model.specs.History.{has}
 use Rattle.ws_model.specs.Intents.{same_pair}
 use Rattle.ws_model.specs.Moment.{last_time}
-use Rattle.ws_model.specs.Leases.{live, leases, lease_of, lease_end, lease_by, confirmed_intent, is_confirmed, is_on, expiry, end_by, end_by_mode, end_by_intent, end_by_push}
+use Rattle.ws_model.specs.Leases.{live, leases, lease_of, lease_end, confirmed_intent, is_confirmed, is_on, expiry, end_by, end_by_mode}
 use Rattle.ws_model.specs.Legal.{Legal}
 use Rattle.ws_model.specs.Revocation.{is_lease_of}
 use Rattle.ws_laws.specs.Fates.{AreApart}
@@ -29,9 +28,8 @@ use Rattle.ws_laws.proofs.Apart.{one_live, same_pair_via}
 use Rattle.ws_laws.proofs.Known.{IsOfConfirmed, leases_confirmed, allowed, in_time}
 use Rattle.ws_laws.proofs.ListLaws.{all_weaker, all_filter, all_find, all_from, filter_all}
 use Rattle.ws_laws.proofs.Step.{live_step, IsFresh, new_fresh}
-use Rattle.ws_lease.specs.Index.{is_it}
 use Rattle.ws_lease.specs.Table.{Rows, lease_at, live_at, unexpired, unless_pair, is_end}
-use Rattle.ws_lease.specs.Stands.{StandsFor, MakesLease, EndsLease, LeavesLeases, is_numbered, live_numbered, StandsOn, StandsLater}
+use Rattle.ws_lease.specs.Stands.{StandsFor, MakesLease, EndsLease, is_numbered, StandsOn, StandsLater}
 
 -- ---- leases of different numbers
 

@@ -1,13 +1,12 @@
 -- Which events make, end or leave leases.
 use Rattle.std.proofs.Common.{◌≡◌, ℕ, ◌≤◌, Bool, true, false, cond, ◌&&◌, List, [], ◌∷◌, refl, ap, sym, ◌∙◌, subst, arith}
-use Rattle.std.specs.Prelude.{nat_le, nat_lt, not, ◌||◌, is_none, is_some, Option, Some, None, IfSome, find, filter, ◌==◌, bytes_eq}
+use Rattle.std.specs.Prelude.{nat_le, is_some, Option, Some, None, IfSome, find, ◌==◌}
 use Rattle.std.specs.List.{AllByRecursion, list_any}
-use Rattle.std.proofs.lemmas.Bool.{false≢true, false_from_ne_true, and_parts, eqb-true, leb-true}
+use Rattle.std.proofs.lemmas.Bool.{false≢true, and_parts, eqb-true, leb-true}
 use Rattle.std.proofs.lemmas.Bool.Decides.{nat_tests}
 use Rattle.ws_model.specs.declared.event.Event.{Event}
 use Rattle.ws_model.specs.declared.event.What.{What}
 use Rattle.ws_model.specs.declared.event.What.TheVariants.{Confirmed, Pushed, Revoked}
-use Rattle.ws_model.specs.declared.event.How.{How}
 use Rattle.ws_model.specs.declared.event.How.TheVariants.{Gone}
 use Rattle.ws_model.specs.declared.event.Mode.{Mode}
 use Rattle.ws_model.specs.declared.event.Mode.TheVariants.{On, Off}
@@ -17,18 +16,18 @@ use Rattle.ws_model.specs.declared.fate.Cause.TheVariants.{Unsubscribed, Gone as
 use Rattle.ws_model.specs.Fate.{Pair, fate, is_owed}
 use Rattle.ws_model.specs.History.{has}
 use Rattle.ws_model.specs.Intents.{same_pair, is_first}
-use Rattle.ws_model.specs.Leases.{live, lease_of, lease_by, confirmed_intent, is_confirmed, is_on, end_by, end_by_intent, end_by_mode, end_by_push}
-use Rattle.ws_model.specs.Legal.{Legal, is_allowed, is_confirmable, is_confirmed_in_time}
+use Rattle.ws_model.specs.Leases.{live, lease_of, confirmed_intent, is_confirmed, is_on, end_by, end_by_mode}
+use Rattle.ws_model.specs.Legal.{is_allowed, is_confirmed_in_time}
 use Rattle.ws_model.specs.Pairs.{pairs, owed}
-use Rattle.ws_model.specs.Revocation.{is_lease_of, live_lease_of}
+use Rattle.ws_model.specs.Revocation.{is_lease_of}
 use Rattle.ws_laws.proofs.Paired.{owed_lives}
 use Rattle.ws_laws.proofs.Ended.{IsToldPair, pairs_told}
 use Rattle.ws_laws.proofs.Follow.{some_found}
 use Rattle.ws_laws.proofs.Known.{allowed}
 use Rattle.ws_laws.proofs.ListLaws.{all_filter_with, all_find, all_from, all_weaker, any_then}
-use Rattle.ws_laws.proofs.Step.{IsFresh, new_fresh, IsConfirming, confirms}
-use Rattle.ws_lease.specs.Table.{Rows, lease_at, live_at}
-use Rattle.ws_lease.specs.Stands.{StandsFor, MakesLease, EndsLease, LeavesLeases, is_numbered, touches_leases, is_gone, GoneEnds, RevokedEnds, UnsubscriptionEnds, UnsubscriptionLeaves, OthersLeave, NewIsNotHeld, EndedIsLive}
+use Rattle.ws_laws.proofs.Step.{IsFresh, new_fresh, confirms}
+use Rattle.ws_lease.specs.Table.{lease_at}
+use Rattle.ws_lease.specs.Stands.{EndsLease, is_numbered, touches_leases, GoneEnds, RevokedEnds, UnsubscriptionEnds, UnsubscriptionLeaves, OthersLeave, NewIsNotHeld, EndedIsLive}
 use Rattle.ws_lease.proofs.Standing.{found_by_number, live_apart, pair_turned}
 
 itself : (n : ℕ) → (n == n) ≡ true

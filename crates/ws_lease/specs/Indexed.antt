@@ -7,7 +7,6 @@ use Rattle.std.specs.List.Sorted.{IsStrictlySortedBy}
 use Rattle.std.specs.BTreeSet.{BTreeSet, contains}
 use Rattle.ws_model.specs.declared.lease.Lease.{Lease}
 use Rattle.ws_model.specs.Leases.{expiry}
-use Rattle.ws_lease.specs.Index.{is_it}
 use Rattle.ws_lease.specs.Table.{Rows, lease_at}
 
 -- the time at which a lease expires, as 64 bits can say it

@@ -1,6 +1,6 @@
 -- The table of leases as contracts see it: the leases that it holds, each with its number, the numbers
 -- rising (own). A lease that has expired may still be held.
-use Rattle.std.specs.Prelude.{◌≡◌, ℕ, ◌≤◌, Bool, true, false, cond, not, ◌&&◌, List, map, filter, find, Option, Some, None, nat_lt, nat_le, bytes_eq, option_map}
+use Rattle.std.specs.Prelude.{◌≡◌, ℕ, ◌≤◌, Bool, true, false, cond, ◌&&◌, List, map, filter, find, Option, Some, None, nat_lt, nat_le, bytes_eq, option_map}
 use Rattle.std.specs.List.{AllByRecursion, list_any}
 use Rattle.std.specs.Ordering.{nat_cmp}
 use Rattle.std.specs.Map.{lookup, remove_entry}

@@ -57,7 +57,10 @@ fn end_live(leases: &mut Leases, n: u64, cause: Cause, t: u64) -> bool
 fn lease_measured_from_ticket_and_renewed(rt: HostRuntime) -> Result<(), Fail> {
     let alloc = rt.alloc();
     let mut leases = Leases::empty(alloc);
-    assert_eq!(rt; put(alloc, &mut leases, 1, ("t", "c"), 1_000, 60, 1_029)?, None);
+    assert_eq!(rt;
+        put(alloc, &mut leases, 1, ("t", "c"), 1_000, 60, 1_029)?,
+        None
+    );
     for (t, live, found, count) in [(1_059, true, Some(1), 1), (1_060, false, None, 0)] {
         assert_eq!(rt; leases.live(1, t), live, "at {t}");
         assert_eq!(rt; leases.find(b"t", b"c", t), found, "at {t}");
@@ -71,8 +74,16 @@ fn lease_measured_from_ticket_and_renewed(rt: HostRuntime) -> Result<(), Fail> {
     assert_eq!(rt; after, None, "lease 2 has expired");
     assert_eq!(rt; leases.get(3, 1_199).map(|lease| lease.sent), Some(1_140));
     assert_eq!(rt; leases.take_expired(1_199).map(|lease| lease.sent), None);
-    assert_eq!(rt; leases.take_expired(1_200).map(|lease| lease.sent), Some(1_140));
-    assert_eq!(rt; leases.take_expired(u64::from(u32::MAX)).map(|lease| lease.sent), None);
+    assert_eq!(rt;
+        leases.take_expired(1_200).map(|lease| lease.sent),
+        Some(1_140)
+    );
+    assert_eq!(rt;
+        leases
+            .take_expired(u64::from(u32::MAX))
+            .map(|lease| lease.sent),
+        None
+    );
     Ok(())
 }
 
@@ -88,7 +99,11 @@ fn unsubscribed_gone_and_revoked(rt: HostRuntime) -> Result<(), Fail> {
     let numbers: Vec<u64> = leases.live_of_topic(b"t", 12).collect(alloc)?;
     assert_eq!(rt; numbers.as_slice(), [1, 2, 4].as_slice());
     let numbers: Vec<u64> = leases.live_of_topic(b"t", 75).collect(alloc)?;
-    assert_eq!(rt; numbers.as_slice(), [2, 4].as_slice(), "lease 1 ended at 70");
+    assert_eq!(rt;
+        numbers.as_slice(),
+        [2, 4].as_slice(),
+        "lease 1 ended at 70"
+    );
     assert_eq!(rt; leases.count(75), 3);
     for (n, cause, t, ends) in [
         (2, Cause::Unsubscribed, 76, true),
@@ -101,8 +116,15 @@ fn unsubscribed_gone_and_revoked(rt: HostRuntime) -> Result<(), Fail> {
     }
     assert_eq!(rt; leases.find(b"u", b"e", 78), None);
     assert_eq!(rt; leases.live_of_topic(b"t", 78).next(), None);
-    assert_eq!(rt; leases.live_of_topic(b"v", 78).next(), None, "no such topic");
-    assert_eq!(rt; leases.take_expired(78).map(|lease| lease.intent.n), Some(1));
+    assert_eq!(rt;
+        leases.live_of_topic(b"v", 78).next(),
+        None,
+        "no such topic"
+    );
+    assert_eq!(rt;
+        leases.take_expired(78).map(|lease| lease.intent.n),
+        Some(1)
+    );
     assert_eq!(rt; leases.take_expired(78).map(|lease| lease.intent.n), None);
     Ok(())
 }

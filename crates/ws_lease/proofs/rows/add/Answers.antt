@@ -1,5 +1,4 @@
-use Rattle.std.proofs.Common.{◌≡◌, ap, ◌∙◌, cond, true, false, ◌&&◌}
-use Rattle.std.specs.Prelude.{◌==◌}
+use Rattle.std.proofs.Common.{ap, ◌∙◌, cond, true, false}
 use Rattle.std.specs.BTreeMap.{is_at}
 use Rattle.ws_lease.specs.Indexed.{end_order, has_end}
 use Rattle.ws_lease.proofs.Ends.{at_pair, undone}

@@ -1,4 +1,4 @@
-use Rattle.std.proofs.Common.{◌≡◌, ap, sym, ◌∙◌, subst, length, filter, arith}
+use Rattle.std.proofs.Common.{ap, sym, ◌∙◌, subst, length, filter, arith}
 use Rattle.std.specs.Prelude.{nat_lt}
 use Rattle.std.specs.List.Sorted.{IsStrictlySortedBy}
 use Rattle.ws_lease.specs.Indexed.{end_order}

@@ -1,4 +1,4 @@
-use Rattle.std.proofs.Common.{◌≡◌, ◌≤◌, arith}
+use Rattle.std.proofs.Common.{◌≤◌, arith}
 use Rattle.ws_lease.proofs.Firsts.{not_after}
 use Rattle.ws_lease.proofs.rows.first_expired.Goals as goal
 

@@ -1,7 +1,6 @@
-use Rattle.std.proofs.Common.{◌≡◌, ap, sym, ◌∙◌, cond, false, ◌&&◌}
+use Rattle.std.proofs.Common.{ap, sym, ◌∙◌, cond, false, ◌&&◌}
 use Rattle.std.specs.Prelude.{◌==◌}
-use Rattle.std.specs.BTreeMap.{is_at}
-use Rattle.ws_lease.specs.Indexed.{end_order, has_end, end_of}
+use Rattle.ws_lease.specs.Indexed.{has_end}
 use Rattle.ws_lease.proofs.Ends.{at_pair, taken_end}
 use Rattle.ws_lease.proofs.rows.take_out.Goals as goal
 

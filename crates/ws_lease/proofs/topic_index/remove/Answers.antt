@@ -1,4 +1,4 @@
-use Rattle.std.proofs.Common.{◌≡◌, ap, sym, ◌∙◌, refl, cond, Some, None}
+use Rattle.std.proofs.Common.{ap, sym, ◌∙◌, refl, cond, Some, None}
 use Rattle.std.specs.Prelude.{bytes_eq, ◌==◌}
 use Rattle.std.specs.Option.{option_and_then}
 use Rattle.ws_lease.specs.Index.{callback_at, end_at}

@@ -1,8 +1,8 @@
-use Rattle.std.proofs.Common.{◌≡◌, ℕ, List, ap, sym, ◌∙◌, subst, cond, true, false, Some, None, ◌&&◌}
+use Rattle.std.proofs.Common.{◌≡◌, ℕ, List, ap, sym, ◌∙◌, cond, true, false, Some, None, ◌&&◌}
 use Rattle.std.specs.Prelude.{bytes_eq, ◌==◌}
 use Rattle.ws_lease.specs.Index.{pair_at, topic_end_at, is_it}
-use Rattle.ws_lease.specs.Indexed.{IsIndexed, has_end, ends_at, end_of, still_live}
-use Rattle.ws_lease.specs.Table.{Rows, lease_at, live_of_pair, number_of_pair, without_one, with_lease, unless_pair}
+use Rattle.ws_lease.specs.Indexed.{has_end, ends_at, end_of, still_live}
+use Rattle.ws_lease.specs.Table.{lease_at, live_of_pair, number_of_pair, without_one, with_lease, unless_pair}
 use Rattle.ws_lease.proofs.IndexedRows.{indexed_with, number_after, number_of_pair_is, found_by_index, remove-insert, is_at_number, still_live_without}
 use Rattle.ws_lease.proofs.Standing.{confirm_stands}
 use Rattle.ws_lease.proofs.table.Leases.confirm.Goals as goal

@@ -1,4 +1,4 @@
-use Rattle.std.proofs.Common.{◌≡◌, ap, sym, ◌∙◌, subst, length}
+use Rattle.std.proofs.Common.{ap, sym, ◌∙◌, subst, length}
 use Rattle.ws_model.specs.Leases.{live}
 use Rattle.ws_lease.specs.Table.{live_rows}
 use Rattle.ws_lease.specs.Stands.{StandsFor}

@@ -1,4 +1,4 @@
-use Rattle.std.proofs.Common.{◌≡◌, ap, sym, ◌∙◌, subst}
+use Rattle.std.proofs.Common.{ap, sym, ◌∙◌, subst}
 use Rattle.ws_model.specs.Leases.{live}
 use Rattle.ws_lease.specs.Index.{pair_at, topic_end_at}
 use Rattle.ws_lease.specs.Indexed.{has_end, still_live}

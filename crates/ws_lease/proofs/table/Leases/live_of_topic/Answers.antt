@@ -1,5 +1,5 @@
-use Rattle.std.proofs.Common.{◌≡◌, ap, sym, ◌∙◌, subst, filter}
-use Rattle.std.specs.Prelude.{bytes_eq, []}
+use Rattle.std.proofs.Common.{ap, sym, ◌∙◌, subst, filter}
+use Rattle.std.specs.Prelude.{bytes_eq}
 use Rattle.std.specs.Option.{option_and_then}
 use Rattle.std.specs.Map.{lookup}
 use Rattle.std.specs.BTreeMap.{is_at}

@@ -1,4 +1,4 @@
-use Rattle.std.proofs.Common.{◌≡◌, ap, sym, ◌∙◌, cond, None, false, ◌&&◌}
+use Rattle.std.proofs.Common.{ap, sym, ◌∙◌, cond, None, false, ◌&&◌}
 use Rattle.std.specs.Prelude.{◌==◌}
 use Rattle.ws_lease.specs.Index.{pair_at, topic_end_at}
 use Rattle.ws_lease.specs.Indexed.{has_end}

@@ -1,9 +1,9 @@
-use Rattle.std.proofs.Common.{◌≡◌, ap, sym, ◌∙◌, subst, refl, Some, None, false}
+use Rattle.std.proofs.Common.{◌≡◌, ap, sym, ◌∙◌, subst, refl, false}
 use Rattle.std.specs.Prelude.{nat_le}
 use Rattle.std.specs.List.{list_any}
 use Rattle.ws_model.specs.Leases.{expiry}
 use Rattle.ws_lease.specs.Index.{pair_at, topic_end_at}
-use Rattle.ws_lease.specs.Indexed.{has_end, FirstEnd}
+use Rattle.ws_lease.specs.Indexed.{has_end}
 use Rattle.ws_lease.specs.Table.{TakesExpired, without}
 use Rattle.ws_lease.proofs.Answering.{none_expired, first_expired, IsFirstRow}
 use Rattle.ws_lease.proofs.table.Leases.take_expired.Goals as goal

@@ -102,12 +102,21 @@ impl Order {
     /// The first member that is ready at `t`. Those before it whose ticket is out or whose lease has
     /// ended are passed over one by one; those whose time hasn't come aren't looked at.
     pub fn first_ready(&self, t: u64, held: &Held) -> Option<NextTry>
+        ensures first { result ≡ find (is_ready t held.now) self.now }
+        ensures rising { IsRising self.now }
+    {
+        // The tree is opened, so that the caller knows its order.
+        let _node = &self.node;
+        self.found_ready(t, held)
+    }
+
+    fn found_ready(&self, t: u64, held: &Held) -> Option<NextTry>
         ensures { result ≡ find (is_ready t held.now) self.now }
     {
         match &self.node {
             Node::Leaf => None,
             Node::Fork(left, _, top, right) => {
-                if let Some(found) = left.first_ready(t, held) {
+                if let Some(found) = left.found_ready(t, held) {
                     return Some(found);
                 }
                 if top.is_ready(t, held) {
@@ -116,7 +125,7 @@ impl Order {
                 if top.at > t {
                     return None;
                 }
-                right.first_ready(t, held)
+                right.found_ready(t, held)
             }
         }
     }

@@ -1,0 +1,5 @@
+pub mod RowsByKey
+pub mod FirstPairs
+pub mod FirstDue
+pub mod Standing
+pub mod Agreeing

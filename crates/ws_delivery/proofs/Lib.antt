@@ -3,3 +3,4 @@ pub mod FirstPairs
 pub mod FirstDue
 pub mod Standing
 pub mod Agreeing
+pub mod Carrying

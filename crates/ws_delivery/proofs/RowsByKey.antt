@@ -5,16 +5,16 @@ use Rattle.std.specs.List.{AllByRecursion, list_any}
 use Rattle.std.specs.List.Sorted.{IsStrictlySortedBy}
 use Rattle.std.specs.Map.{lookup, keys_of, remove_entry}
 use Rattle.std.specs.BTreeMap.{is_at, insert_entry}
-use Rattle.std.specs.Ordering.{nat_cmp, ordering_then, is_le}
+use Rattle.std.specs.Ordering.{nat_cmp, ordering_then, is_le, is_lt, is_eq as is_order_eq, match_ordering}
 use Rattle.std.specs.declared.cmp.Ordering.{Ordering}
-use Rattle.std.specs.declared.cmp.Ordering.TheVariants.{Less}
+use Rattle.std.specs.declared.cmp.Ordering.TheVariants.{Less, Equal, Greater}
 use Rattle.std.proofs.lemmas.Map.Views.{All-after_first}
 use Rattle.std.proofs.lemmas.List.Elements.{recursion_from_All}
 use Rattle.std.proofs.lemmas.Bool.{false≢true, cases_order}
 use Rattle.std.proofs.lemmas.Bool.Decides.{nat_tests}
 use Rattle.ws_order.specs.declared.next_try.NextTry.{NextTry}
 use Rattle.ws_delivery.specs.declared.open_pair.OpenPair.{OpenPair}
-use Rattle.ws_delivery.specs.Table.{Rows, pair_order, pair_at, is_here, is_of_lease, number_of}
+use Rattle.ws_delivery.specs.Table.{Rows, pair_order, pair_at, is_here, is_of_lease, number_of, IsNextOpen}
 use Rattle.ws_delivery.specs.Indexed.{try_of, head_try}
 
 -- ---- keys
@@ -40,10 +40,11 @@ sorted_rest k ks s = s.1
 
 pub ascends : (rows : Rows) → IsStrictlySortedBy pair_order (keys_of rows) → Ascends rows
 ascends [] s = tt
-ascends (e ∷ rows) s =
-    (over_keys (λ q. pair_order e.0 q ≡ Less) (λ d. (nat_lt e.0.0 d.0.0 || ((e.0.0 == d.0.0) && nat_lt e.0.1 d.0.1)) ≡ true) (λ d k. key_order e.0.0 e.0.1 d.0.0 d.0.1 k) rows
-    (recursion_from_All (λ q. pair_order e.0 q ≡ Less) (keys_of rows) (All-after_first pair_order e.0 (keys_of rows) s)),
-    ascends rows (sorted_rest e.0 (keys_of rows) s))
+ascends (e ∷ rows) s = (
+  over_keys (λ q. pair_order e.0 q ≡ Less) (λ d. (nat_lt e.0.0 d.0.0 || ((e.0.0 == d.0.0) && nat_lt e.0.1 d.0.1)) ≡ true) (λ d k. key_order e.0.0 e.0.1 d.0.0 d.0.1 k) rows
+      (recursion_from_All (λ q. pair_order e.0 q ≡ Less) (keys_of rows) (All-after_first pair_order e.0 (keys_of rows) s)),
+  ascends rows (sorted_rest e.0 (keys_of rows) s),
+)
 
 -- ---- the pair of a version and a lease
 
@@ -290,3 +291,157 @@ none_number n (r ∷ rows) e = one (is_of_lease n r) e (none_number n rows)
     one : (b : Bool) → cond b (Some (try_of r)) (head_try n rows) ≡ None → (head_try n rows ≡ None → number_of n rows ≡ 0) → length (cond b (r ∷ filter (is_of_lease n) rows) (filter (is_of_lease n) rows)) ≡ 0
     one true e f = absurd (cc)
     one false e f = f e
+
+-- ---- the next open version of a lease
+
+abbrev pub is_after : ℕ → ℕ → (ℕ × ℕ) × OpenPair → Bool
+is_after n v e = is_lt (pair_order (n, v) e.0) && true
+
+after_test : (n v m u : ℕ) → (is_lt (pair_order (n, v) (m, u)) && true) ≡ (nat_lt n m || ((n == m) && nat_lt v u))
+after_test n v m u = grind (arith, nat_tests)
+
+-- an entry that isn't behind a version is at no higher one
+not_higher : (n v m u w : ℕ) → (nat_lt n m || ((n == m) && nat_lt v u)) ≡ false → v < w → ((n == m) && (w == u)) ≡ false
+not_higher n v m u w p k = grind (arith, nat_tests)
+
+look_past : (n v w : ℕ) (e : (ℕ × ℕ) × OpenPair) (rows : Rows) → is_after n v e ≡ false → v < w → pair_at w n (e ∷ rows) ≡ pair_at w n rows
+look_past n v w e rows p k = look_at w n e rows ∙ ap (λ b. cond b (Some e.1) (pair_at w n rows)) (not_higher n v e.0.0 e.0.1 w (sym (after_test n v e.0.0 e.0.1) ∙ p) k)
+
+next_past : (n v : ℕ) (e : (ℕ × ℕ) × OpenPair) (rows : Rows) → is_after n v e ≡ false → (o : Option ℕ) → IsNextOpen v n rows o → IsNextOpen v n (e ∷ rows) o
+next_past n v e rows p None f = λ w k. look_past n v w e rows p k ∙ f w k
+next_past n v e rows p (Some u) f = (f.0, ap is_some (look_past n v u e rows p f.0) ∙ f.1, λ w k l. look_past n v w e rows p k ∙ f.2 w k l)
+
+-- none of a lease is open before the first entry
+none_before : (n w : ℕ) (e : (ℕ × ℕ) × OpenPair) (rows : Rows) → Ascends (e ∷ rows) → (nat_lt n e.0.0 || ((n == e.0.0) && nat_lt w e.0.1)) ≡ true → pair_at w n (e ∷ rows) ≡ None
+none_before n w e rows s k = look_at w n e rows ∙ ap (λ b. cond b (Some e.1) (pair_at w n rows)) (apart n w e.0.0 e.0.1 k) ∙ none_below e.0.0 e.0.1 w n k rows s.0
+  where
+    apart : (n w m u : ℕ) → (nat_lt n m || ((n == m) && nat_lt w u)) ≡ true → ((n == m) && (w == u)) ≡ false
+    apart n w m u k = grind (arith, nat_tests)
+
+-- the version of an entry, where it is of this lease
+abbrev pub version_in : ℕ → (ℕ × ℕ) × OpenPair → Option ℕ
+version_in n e = cond (e.0.0 == n) (Some e.0.1) None
+
+next_first : (n v : ℕ) (e : (ℕ × ℕ) × OpenPair) (rows : Rows) → Ascends (e ∷ rows) → (nat_lt n e.0.0 || ((n == e.0.0) && nat_lt v e.0.1)) ≡ true → IsNextOpen v n (e ∷ rows) (version_in n e)
+next_first n v e rows s k = by (e.0.0 == n) refl
+  where
+    above : (n v m u : ℕ) → (nat_lt n m || ((n == m) && nat_lt v u)) ≡ true → (m == n) ≡ true → v < u
+    above n v m u k q = grind (arith, nat_tests)
+
+    here : (n m u : ℕ) → (m == n) ≡ true → ((n == m) && (u == u)) ≡ true
+    here n m u q = grind (arith, nat_tests)
+
+    between : (n w m u : ℕ) → (m == n) ≡ true → w < u → (nat_lt n m || ((n == m) && nat_lt w u)) ≡ true
+    between n w m u q l = grind (arith, nat_tests)
+
+    later : (n v w m u : ℕ) → (nat_lt n m || ((n == m) && nat_lt v u)) ≡ true → (m == n) ≡ false → (nat_lt n m || ((n == m) && nat_lt w u)) ≡ true
+    later n v w m u k q = grind (arith, nat_tests)
+
+    by : (b : Bool) → (e.0.0 == n) ≡ b → IsNextOpen v n (e ∷ rows) (cond b (Some e.0.1) None)
+    by true q = (above n v e.0.0 e.0.1 k q, ap is_some (look_at e.0.1 n e rows ∙ ap (λ b. cond b (Some e.1) (pair_at e.0.1 n rows)) (here n e.0.0 e.0.1 q)), λ w l m. none_before n w e rows s (between n w e.0.0 e.0.1 q m))
+    by false q = λ w l. none_before n w e rows s (later n v w e.0.0 e.0.1 k q)
+
+pub next_at : (n v : ℕ) (rows rest : Rows) (e : (ℕ × ℕ) × OpenPair) → Ascends rows → filter (is_after n v) rows ≡ e ∷ rest → IsNextOpen v n rows (version_in n e)
+next_at n v [] rest e s k = absurd (cc)
+next_at n v (r ∷ rows) rest e s k = one (is_after n v r) refl k (next_at n v rows rest e s.1)
+  where
+    one : (b : Bool) → is_after n v r ≡ b → cond b (r ∷ filter (is_after n v) rows) (filter (is_after n v) rows) ≡ e ∷ rest → (filter (is_after n v) rows ≡ e ∷ rest → IsNextOpen v n rows (version_in n e)) → IsNextOpen v n (r ∷ rows) (version_in n e)
+    one true p k f = let q : r ≡ e = cc in subst (λ z. IsNextOpen v n (r ∷ rows) (version_in n z)) q (next_first n v r rows s (sym (after_test n v r.0.0 r.0.1) ∙ p))
+    one false p k f = next_past n v r rows p (version_in n e) (f k)
+
+pub none_after : (n v : ℕ) (rows : Rows) → filter (is_after n v) rows ≡ [] → (w : ℕ) → v < w → pair_at w n rows ≡ None
+none_after n v [] k w l = refl
+none_after n v (r ∷ rows) k w l = one (is_after n v r) refl k (λ m. none_after n v rows m w l)
+  where
+    one : (b : Bool) → is_after n v r ≡ b → cond b (r ∷ filter (is_after n v) rows) (filter (is_after n v) rows) ≡ [] → (filter (is_after n v) rows ≡ [] → pair_at w n rows ≡ None) → pair_at w n (r ∷ rows) ≡ None
+    one true p k f = absurd (cc)
+    one false p k f = look_past n v w r rows p l ∙ f k
+
+-- ---- rows with the same pairs are the same
+
+pub same_rows : (es fs : Rows) → Ascends es → Ascends fs → ((v n : ℕ) → pair_at v n es ≡ pair_at v n fs) → es ≡ fs
+same_rows [] [] s u f = refl
+same_rows [] (r ∷ fs) s u f = absurd (nothing_there r fs (f r.0.1 r.0.0))
+  where
+    here : (m u : ℕ) → ((m == m) && (u == u)) ≡ true
+    here m u = grind (arith, nat_tests)
+
+    nothing_there : (r : (ℕ × ℕ) × OpenPair) (fs : Rows) → None ≡ pair_at r.0.1 r.0.0 (r ∷ fs) → ⊥
+    nothing_there r fs k = let q : ◌≡◌ {A = Option OpenPair} None (Some r.1) = k ∙ look_at r.0.1 r.0.0 r fs ∙ ap (λ b. cond b (Some r.1) (pair_at r.0.1 r.0.0 fs)) (here r.0.0 r.0.1) in cc
+same_rows (e ∷ es) [] s u f = absurd (nothing_there e es (f e.0.1 e.0.0))
+  where
+    here : (m u : ℕ) → ((m == m) && (u == u)) ≡ true
+    here m u = grind (arith, nat_tests)
+
+    nothing_there : (r : (ℕ × ℕ) × OpenPair) (fs : Rows) → pair_at r.0.1 r.0.0 (r ∷ fs) ≡ None → ⊥
+    nothing_there r fs k = let q : ◌≡◌ {A = Option OpenPair} None (Some r.1) = sym k ∙ look_at r.0.1 r.0.0 r fs ∙ ap (λ b. cond b (Some r.1) (pair_at r.0.1 r.0.0 fs)) (here r.0.0 r.0.1) in cc
+same_rows (e ∷ es) (r ∷ fs) s u f = by_order (nat_lt e.0.0 r.0.0 || ((e.0.0 == r.0.0) && nat_lt e.0.1 r.0.1)) refl (nat_lt r.0.0 e.0.0 || ((r.0.0 == e.0.0) && nat_lt r.0.1 e.0.1)) refl (same_rows es fs s.1 u.1)
+  where
+    here : (m u : ℕ) → ((m == m) && (u == u)) ≡ true
+    here m u = grind (arith, nat_tests)
+
+    at_head : (x : (ℕ × ℕ) × OpenPair) (xs : Rows) → pair_at x.0.1 x.0.0 (x ∷ xs) ≡ Some x.1
+    at_head x xs = look_at x.0.1 x.0.0 x xs ∙ ap (λ b. cond b (Some x.1) (pair_at x.0.1 x.0.0 xs)) (here x.0.0 x.0.1)
+
+    none_some : (p : OpenPair) → ◌≡◌ {A = Option OpenPair} None (Some p) → ⊥
+    none_some p z = cc
+
+    some_same : (p q : OpenPair) → Some p ≡ Some q → p ≡ q
+    some_same p q z = cc
+
+    equal : (a b c d : ℕ) → (nat_lt a c || ((a == c) && nat_lt b d)) ≡ false → (nat_lt c a || ((c == a) && nat_lt d b)) ≡ false → (a ≡ c) × (b ≡ d)
+    equal a b c d p q = (grind (arith, nat_tests), grind (arith, nat_tests))
+
+    tails : e ≡ r → (v n : ℕ) → pair_at v n es ≡ pair_at v n fs
+    tails q v n = one (is_here v n e.0.1 e.0.0) refl (sym (look_at v n e es) ∙ f v n ∙ look_at v n r fs ∙ ap (λ (z : (ℕ × ℕ) × OpenPair). cond (is_here v n z.0.1 z.0.0) (Some z.1) (pair_at v n fs)) (sym q))
+      where
+        eqs : (n m v w : ℕ) → ((n == m) && (v == w)) ≡ true → (m ≡ n) × (w ≡ v)
+        eqs n m v w k = (grind (arith, nat_tests), grind (arith, nat_tests))
+
+        lower : (m w n v a b : ℕ) → m ≡ n → w ≡ v → (nat_lt m a || ((m == a) && nat_lt w b)) ≡ true → ((n == a) && (v == b)) ≡ false
+        lower m w n v a b p q k = grind (arith, nat_tests)
+
+        none_in : (m w : ℕ) → m ≡ n → w ≡ v → (rows : Rows) → AllByRecursion (λ (d : (ℕ × ℕ) × OpenPair). (nat_lt m d.0.0 || ((m == d.0.0) && nat_lt w d.0.1)) ≡ true) rows → pair_at v n rows ≡ None
+        none_in m w p q [] a = refl
+        none_in m w p q (x ∷ rows) a = look_at v n x rows ∙ ap (λ b. cond b (Some x.1) (pair_at v n rows)) (lower m w n v x.0.0 x.0.1 p q a.0) ∙ none_in m w p q rows a.1
+
+        one : (b : Bool) → is_here v n e.0.1 e.0.0 ≡ b → cond b (Some e.1) (pair_at v n es) ≡ cond b (Some e.1) (pair_at v n fs) → pair_at v n es ≡ pair_at v n fs
+        one true k g =
+            let a = eqs n e.0.0 v e.0.1 k in
+            none_in e.0.0 e.0.1 a.0 a.1 es s.0 ∙ sym (none_in r.0.0 r.0.1 (sym (ap (λ (z : (ℕ × ℕ) × OpenPair). z.0.0) q) ∙ a.0) (sym (ap (λ (z : (ℕ × ℕ) × OpenPair). z.0.1) q) ∙ a.1) fs u.0)
+        one false k g = g
+
+    by_order : (b : Bool) → (nat_lt e.0.0 r.0.0 || ((e.0.0 == r.0.0) && nat_lt e.0.1 r.0.1)) ≡ b → (c : Bool) → (nat_lt r.0.0 e.0.0 || ((r.0.0 == e.0.0) && nat_lt r.0.1 e.0.1)) ≡ c → (((v n : ℕ) → pair_at v n es ≡ pair_at v n fs) → es ≡ fs) → e ∷ es ≡ r ∷ fs
+    by_order true p c q g = absurd (none_some e.1 (sym (none_before e.0.0 e.0.1 r fs u p) ∙ sym (f e.0.1 e.0.0) ∙ at_head e es))
+    by_order false p true q g = absurd (none_some r.1 (sym (none_before r.0.0 r.0.1 e es s q) ∙ f r.0.1 r.0.0 ∙ at_head r fs))
+    by_order false p false q g =
+        let k = equal e.0.0 e.0.1 r.0.0 r.0.1 p q in
+        let v : e.1 ≡ r.1 = some_same e.1 r.1 (sym (at_head e es) ∙ f e.0.1 e.0.0 ∙ (λ j. pair_at (k.1 j) (k.0 j) (r ∷ fs)) ∙ at_head r fs) in
+        let same : e ≡ r = λ j. ((k.0 j, k.1 j), v j) in
+        (λ j. same j ∷ g (tails same) j)
+
+-- ---- one more open pair
+
+pub inserted_number : (v n m : ℕ) (p : OpenPair) (rows : Rows) → pair_at v n rows ≡ None → number_of m (insert_entry pair_order rows (n, v) p) ≡ number_of m rows + cond (n == m) 1 0
+inserted_number v n m p [] e = by (n == m) ((n, v), p)
+  where
+    by : (b : Bool) (x : (ℕ × ℕ) × OpenPair) → length (cond b (x ∷ []) []) ≡ 0 + cond b 1 0
+    by true x = omega arith
+    by false x = omega arith
+inserted_number v n m p (r ∷ rows) e = by (pair_order (n, v) r.0) e (inserted_number v n m p rows)
+  where
+    longer : (b c : Bool) (x : (ℕ × ℕ) × OpenPair) (xs : Rows) → b ≡ c → length (cond b (x ∷ xs) xs) ≡ length xs + cond c 1 0
+    longer true true x xs k = omega arith
+    longer true false x xs k = absurd (false≢true (sym k))
+    longer false true x xs k = absurd (false≢true k)
+    longer false false x xs k = omega arith
+
+    both : (b : Bool) (x : (ℕ × ℕ) × OpenPair) (xs ys : Rows) (k : ℕ) → length ys ≡ length xs + k → length (cond b (x ∷ ys) ys) ≡ length (cond b (x ∷ xs) xs) + k
+    both true x xs ys k q = omega arith
+    both false x xs ys k q = q
+
+    by : (o : Ordering) → cond (is_order_eq o) (Some r.1) (pair_at v n rows) ≡ None → (pair_at v n rows ≡ None → number_of m (insert_entry pair_order rows (n, v) p) ≡ number_of m rows + cond (n == m) 1 0)
+        → number_of m (match_ordering o (((n, v), p) ∷ r ∷ rows) ((r.0, p) ∷ rows) (r ∷ insert_entry pair_order rows (n, v) p)) ≡ number_of m (r ∷ rows) + cond (n == m) 1 0
+    by Less e f = longer (n == m) (n == m) ((n, v), p) (filter (is_of_lease m) (r ∷ rows)) refl
+    by Equal e f = absurd (cc)
+    by Greater e f = both (is_of_lease m r) r (filter (is_of_lease m) rows) (filter (is_of_lease m) (insert_entry pair_order rows (n, v) p)) (cond (n == m) 1 0) (f e)

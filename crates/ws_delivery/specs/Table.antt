@@ -1,5 +1,5 @@
 -- The open pairs: versions that are owed to leases (WebSub section 7; the retries are own).
-use Rattle.std.specs.Prelude.{◌≡◌, ℕ, suc, ◌+◌, Bool, true, false, cond, List, [], ◌∷◌, length, filter, nat_lt, nat_le, ◌==◌, ◌&&◌, Option, Some, None}
+use Rattle.std.specs.Prelude.{◌≡◌, ℕ, ◌<◌, ◌+◌, IsSome, Bool, true, false, cond, List, [], ◌∷◌, length, filter, nat_lt, nat_le, ◌==◌, ◌&&◌, Option, Some, None}
 use Rattle.std.specs.Ordering.{nat_cmp, ordering_then}
 use Rattle.std.specs.declared.cmp.Ordering.{Ordering}
 use Rattle.std.specs.Map.{lookup, values_of}
@@ -66,3 +66,13 @@ number_of n rows = length (filter (is_of_lease n) rows)
 -- how many pairs are owed at t
 abbrev pub number_owed : ℕ → Rows → ℕ
 number_owed t rows = length (filter (λ p. nat_lt t p.exp) (values_of rows))
+
+-- the pair that takes over from one: it is born at t, with the end of the new lease
+abbrev pub carried : ℕ → ℕ → Option OpenPair → Option OpenPair
+carried exp t None = None
+carried exp t (Some p) = Some (fresh exp t)
+
+-- the lowest open version of a lease above a given one
+abbrev pub IsNextOpen : ℕ → ℕ → Rows → Option ℕ → Type 0
+IsNextOpen v n rows None = (w : ℕ) → v < w → pair_at w n rows ≡ None
+IsNextOpen v n rows (Some u) = (v < u) × IsSome (pair_at u n rows) × ((w : ℕ) → v < w → w < u → pair_at w n rows ≡ None)

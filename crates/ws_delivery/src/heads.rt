@@ -5,10 +5,11 @@ ghost use Rattle.std.specs.List.Sorted.{IsStrictlySortedBy};
 ghost use Rattle.ws_order.specs.declared.next_try.NextTry.{NextTry};
 ghost use Rattle.ws_order.specs.NextTries.{has, same};
 ghost use Rattle.ws_delivery.specs.Indexed.{head_try, is_it, try_of};
-ghost use Rattle.ws_delivery.specs.Table.{pair_order};
+ghost use Rattle.ws_delivery.specs.Table.{pair_order, IsNextOpen};
 
 use crate::OpenPair;
 use std::collections::BTreeMap;
+use std::ops::Bound;
 use ws_order::{NextTry, Order};
 
 /// The open pairs by lease and version.
@@ -26,6 +27,17 @@ pub fn head_of(pairs: &Pairs, lease: u64) -> Option<NextTry>
                 None
             }
         }
+        None => None,
+    }
+}
+
+/// The lowest open version of a lease above a given one.
+pub fn open_after(pairs: &Pairs, lease: u64, ver: u64) -> Option<u64>
+    ensures { IsNextOpen ver lease pairs.now.entries result }
+{
+    let behind = (Bound::Excluded((lease, ver)), Bound::Unbounded);
+    match pairs.range(behind).next() {
+        Some((key, _)) => { if key.0 == lease { Some(key.1) } else { None } }
         None => None,
     }
 }

@@ -1,7 +1,9 @@
 // The table of open pairs.
-ghost use Rattle.std.specs.Prelude.{◌≡◌, ◌+◌, ◌<◌, ◌^◌, ℕ, [], None, Some, cond, ◌==◌, ◌&&◌, IsSome, IfSome, IfOk, OnOk, OnErr, IsSomeAnd, length};
+ghost use Rattle.std.specs.Prelude.{◌≡◌, ◌+◌, ◌<◌, ◌^◌, ℕ, [], None, Some, cond, ◌==◌, ◌&&◌, IsSome, IfSome, IfOk, OnOk, OnErr, IsSomeAnd, length, if◌then◌else◌};
 ghost use Rattle.std.specs.Option.{option_map};
-ghost use Rattle.ws_delivery.specs.Table.{pair_at, is_here, owed_at, fresh, after_miss, fate_after_miss, fate_at, number_of, number_owed};
+ghost use Rattle.std.specs.Map.{keys_of};
+ghost use Rattle.std.specs.List.Sorted.{IsStrictlySortedBy};
+ghost use Rattle.ws_delivery.specs.Table.{carried, pair_order, pair_at, is_here, owed_at, fresh, after_miss, fate_after_miss, fate_at, number_of, number_owed};
 ghost use Rattle.ws_delivery.specs.NextDue.{IsNextDue};
 
 use crate::OpenPair;
@@ -63,6 +65,7 @@ impl Deliveries {
         requires new { pair_at ver lease self.old ≡ None }
         requires one_end { (v : ℕ) → IfSome (pair_at v lease self.old) (λ p. p.exp ≡ exp) }
         ensures look { OnOk result ((v n : ℕ) → pair_at v n self.new ≡ cond (is_here ver lease v n) (Some (fresh exp t)) (pair_at v n self.old)) }
+        ensures number { OnOk result ((n : ℕ) → number_of n self.new ≡ number_of n self.old + (if lease == n then 1 else 0)) }
         ensures err { OnErr result (self.new ≡ self.old) }
     {
         let pair = OpenPair::fresh(exp, t);
@@ -141,12 +144,38 @@ impl Deliveries {
     pub fn close_lease(&mut self, lease: u64) -> u64
         ensures number { result ≡ number_of lease self.old }
         ensures look { (v n : ℕ) → pair_at v n self.new ≡ cond (lease == n) None (pair_at v n self.old) }
+        ensures ordered { IsStrictlySortedBy pair_order (keys_of self.new) }
     {
         let before = self.pairs.len();
         while let Some(first) = heads::head_of(&self.pairs, lease) {
             self.close(first.ver, lease);
         }
         (before - self.pairs.len()) as u64
+    }
+
+    /// Opens afresh at `t`, for a new lease, what is open of an old one, and closes that; it gives the
+    /// number of the pairs. At an error the table is as before.
+    pub fn carry(&mut self, old: u64, new: u64, exp: u64, t: u64) -> Result<u64, NoMemory>
+        requires in_time { t < 2 ^ 48 }
+        requires none { (v : ℕ) → pair_at v new self.old ≡ None }
+        ensures number { IfOk result (λ k. k ≡ number_of old self.old) }
+        ensures look { OnOk result ((v n : ℕ) → pair_at v n self.new ≡ cond (new == n) (carried exp t (pair_at v old self.old)) (cond (old == n) None (pair_at v n self.old))) }
+        ensures err { OnErr result (self.new ≡ self.old) }
+    {
+        let mut next = match heads::head_of(&self.pairs, old) {
+            Some(first) => Some(first.ver),
+            None => None,
+        };
+        while let Some(ver) = next {
+            match self.born(ver, new, exp, t) {
+                Ok(()) => next = heads::open_after(&self.pairs, old, ver),
+                Err(fault) => {
+                    self.close_lease(new);
+                    return Err(fault);
+                }
+            }
+        }
+        Ok(self.close_lease(old))
     }
 
     /// How many pairs are owed at `t`. It looks at each open pair.

@@ -50,3 +50,48 @@ fn pushes_in_order(rt: HostRuntime) -> Result<(), Fail> {
     assert_eq!(rt; table.next_due(2_000, &none), Some((3, 1)));
     Ok(())
 }
+
+// A renewal at 2042 takes over what is owed to lease 1, afresh.
+#[test]
+fn renewal_carries_owed_push(rt: HostRuntime) -> Result<(), Fail> {
+    let alloc = rt.alloc();
+    let mut table = Deliveries::empty(alloc);
+    table.born(1, 1, 90_000, 2_000)?;
+    for (at, tries, next) in [(2_000, 1, 2_010), (2_010, 2, 2_040)] {
+        assert!(rt; at < 1 << 47 && table.fate(1, 1, at).is_some());
+        assert_eq!(rt; table.miss(1, 1, at), Fate::Owed { tries, next });
+    }
+    assert_eq!(rt; table.close_lease(2), 0);
+    assert_eq!(rt; table.carry(1, 2, 99_000, 2_042)?, 1);
+    assert_eq!(rt; table.fate(1, 1, 2_042), None);
+    assert_eq!(rt;
+        table.fate(1, 2, 2_042),
+        Some(Fate::Owed {
+            tries: 0,
+            next: 2_042
+        })
+    );
+    assert_eq!(rt; table.next_due(2_042, &Held::empty(alloc)), Some((1, 2)));
+    Ok(())
+}
+
+// Of one lease the lower version comes first, although its next try is later.
+#[test]
+fn lower_version_first(rt: HostRuntime) -> Result<(), Fail> {
+    let alloc = rt.alloc();
+    let mut table = Deliveries::empty(alloc);
+    let none = Held::empty(alloc);
+    table.born(1, 1, 90_000, 1_000)?;
+    table.born(2, 1, 90_000, 1_001)?;
+    assert!(rt; table.fate(1, 1, 1_001).is_some());
+    assert_eq!(rt;
+        table.miss(1, 1, 1_001),
+        Fate::Owed {
+            tries: 1,
+            next: 1_011
+        }
+    );
+    assert_eq!(rt; table.next_due(1_010, &none), None);
+    assert_eq!(rt; table.next_due(1_011, &none), Some((1, 1)));
+    Ok(())
+}

@@ -136,12 +136,14 @@ impl Order {
     {
         match self.opened() {
             None => Order::empty().with_on_top(new, rank, room),
-            Some(Sides {
-                left,
-                rank: above,
-                top,
-                right,
-            }) => {
+            Some(
+                Sides {
+                    left,
+                    rank: above,
+                    top,
+                    right,
+                },
+            ) => {
                 if above < rank {
                     return fork(left, above, top, right).with_on_top(new, rank, room);
                 }
@@ -176,12 +178,14 @@ impl Order {
     {
         match self.opened() {
             None => (Order::empty(), Order::empty()),
-            Some(Sides {
-                left,
-                rank,
-                top,
-                right,
-            }) => {
+            Some(
+                Sides {
+                    left,
+                    rank,
+                    top,
+                    right,
+                },
+            ) => {
                 if top.is_before(place) {
                     let (behind, empty) = unboxed(right);
                     let (low, high) = behind.split(place);
@@ -202,12 +206,14 @@ impl Order {
     {
         match self.opened() {
             None => (Order::empty(), None),
-            Some(Sides {
-                left,
-                rank,
-                top,
-                right,
-            }) => {
+            Some(
+                Sides {
+                    left,
+                    rank,
+                    top,
+                    right,
+                },
+            ) => {
                 if member.is_before(&top) {
                     let (front, empty) = unboxed(left);
                     let (front, room) = front.without(member);

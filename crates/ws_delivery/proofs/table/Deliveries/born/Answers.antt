@@ -1,10 +1,10 @@
-use Rattle.std.proofs.Common.{◌≡◌, ◌<◌, ℕ, ap, sym, ◌∙◌, subst, refl, arith}
-use Rattle.std.specs.Prelude.{Some, None, IfSome, cond, not, ◌&&◌, ◌||◌}
+use Rattle.std.proofs.Common.{◌≡◌, ◌<◌, ◌+◌, ℕ, ap, sym, ◌∙◌, subst, refl, arith}
+use Rattle.std.specs.Prelude.{Some, None, IfSome, cond, ◌==◌, not, ◌&&◌, ◌||◌}
 use Rattle.ws_model.specs.Due.{place}
 use Rattle.ws_order.specs.NextTries.{before, has, same}
-use Rattle.ws_delivery.specs.Table.{pair_at, is_here, fresh}
+use Rattle.ws_delivery.specs.Table.{pair_at, is_here, fresh, number_of}
 use Rattle.ws_delivery.specs.Indexed.{IsIndexed, head_try, try_of, is_it}
-use Rattle.ws_delivery.proofs.RowsByKey.{looks_by_key}
+use Rattle.ws_delivery.proofs.RowsByKey.{looks_by_key, inserted_number}
 use Rattle.ws_delivery.proofs.FirstPairs.{indexed_after, headed_after, head_is_new, head_is_there, head_leases, headed_first}
 use Rattle.ws_delivery.proofs.table.Deliveries.born.Goals as goal
 
@@ -42,3 +42,15 @@ pub returns-in_ok-insert-in-None-clause-look : goal.returns-in_ok-insert-in-None
 returns-in_ok-insert-in-None-clause-look c v n =
     let look : (v n : ℕ) → pair_at v n c.insert-in-None.new.self.entries ≡ cond (is_here c.args.ver c.args.lease v n) (Some (fresh c.args.exp c.args.t)) (pair_at v n c.self.inside.pairs.entries) = λ v n. looks_by_key c.self.inside.pairs.entries c.insert-in-None.new.self.entries c.args.ver c.args.lease (Some c.fresh-pair.result) c.in_ok-insert-in-None.ensures.updates.0 v n ∙ ap (λ z. cond (is_here c.args.ver c.args.lease v n) (Some z) (pair_at v n c.self.inside.pairs.entries)) c.fresh-pair.ensures in
     look v n ∙ ap (λ z. cond (is_here c.args.ver c.args.lease v n) (Some (fresh c.args.exp c.args.t)) (pair_at v n z)) c.self.view_is
+
+pub returns-in_ok-insert-in-Some-clause-number : goal.returns-in_ok-insert-in-Some-clause-number
+returns-in_ok-insert-in-Some-clause-number c n =
+    ap (number_of n) c.in_ok-insert-in-Some.ensures.entries
+    ∙ inserted_number c.args.ver c.args.lease n c.fresh-pair.result c.self.inside.pairs.entries (ap (pair_at c.args.ver c.args.lease) c.self.view_is ∙ c.requires.new)
+    ∙ ap (λ z. number_of n z + cond (c.args.lease == n) 1 0) c.self.view_is
+
+pub returns-in_ok-insert-in-None-clause-number : goal.returns-in_ok-insert-in-None-clause-number
+returns-in_ok-insert-in-None-clause-number c n =
+    ap (number_of n) c.in_ok-insert-in-None.ensures.entries
+    ∙ inserted_number c.args.ver c.args.lease n c.fresh-pair.result c.self.inside.pairs.entries (ap (pair_at c.args.ver c.args.lease) c.self.view_is ∙ c.requires.new)
+    ∙ ap (λ z. number_of n z + cond (c.args.lease == n) 1 0) c.self.view_is

@@ -1,6 +1,8 @@
 use Rattle.std.proofs.Common.{◌≡◌, ℕ, ◌+◌, ◌≤◌, ap, sym, ◌∙◌, subst, arith, length}
 use Rattle.std.specs.Prelude.{Some, None, IsSome}
-use Rattle.ws_delivery.specs.Table.{pair_at, number_of}
+use Rattle.ws_delivery.specs.Table.{pair_order, pair_at, number_of}
+use Rattle.std.specs.Map.{keys_of}
+use Rattle.std.specs.List.Sorted.{IsStrictlySortedBy}
 use Rattle.ws_delivery.proofs.RowsByKey.{head_open, no_head, none_number, closed_look}
 use Rattle.ws_delivery.proofs.table.Deliveries.close_lease.Goals as goal
 
@@ -31,3 +33,6 @@ returns-clause-look c v n =
     closed_look c.args.lease v n c.loop-first.self c.args.self.now
     (λ w. subst (λ z. pair_at w c.args.lease z ≡ None) c.self-in-loop-first.view_is (no_head c.args.lease c.self-in-loop-first.inside.pairs.entries (sym c.head_of.ensures ∙ c.in_default.is) w))
     c.loop-first.invariant.others
+
+pub returns-clause-ordered : goal.returns-clause-ordered
+returns-clause-ordered c = subst (λ z. IsStrictlySortedBy pair_order (keys_of z)) c.self-2.view_is c.self-2.invariant.ordered

@@ -1,0 +1,5 @@
+pub mod Table
+pub mod Indexed
+pub mod NextDue
+pub mod Stands
+pub mod Agrees

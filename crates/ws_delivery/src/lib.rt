@@ -1,0 +1,14 @@
+//! The table of deliveries: which versions are still owed to which leases, with their tries.
+#![tactic(auto)]
+
+mod heads;
+mod laws;
+mod open_pair;
+mod table;
+
+pub use laws::{next_due_agrees, stands_after, stands_empty, stands_later, stands_on};
+pub use open_pair::OpenPair;
+pub use table::Deliveries;
+
+#[cfg(test)]
+mod tests;

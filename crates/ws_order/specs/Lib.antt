@@ -1,0 +1,3 @@
+pub mod NextTries
+pub mod Trees
+pub mod TreeFalls

@@ -71,7 +71,7 @@ asked_stands old new i look same h e s l is =
     let fresh = new_number h l.0 i.n (ltb-true (last_intent h) i.n (is_allowed_as h e (Asked i) l is)) in
     from_rows new (e ∷ h) (at_what (λ f. IsAt new (f ∷ h)) e (Asked i) is (record {
       waits = step as_pending (λ q. number_at q new.pending) (λ q. number_at q old.pending) (pending_row (event e.serial e.t (Asked i) ∷ h)) (pending_row h) i.n (Some (record { intent = i; unheard = 0 })) (Some (record { intent = i; unheard = 0 }))
-        look r.waits refl (asked_row e.serial e.t i h fresh);
+          look r.waits refl (asked_row e.serial e.t i h fresh);
       owes = λ q. ap (λ es. option_map as_notice (number_at q es)) same ∙ r.owes q ∙ sym (asked_notice e.serial e.t i h fresh q);
     }))
 
@@ -100,11 +100,11 @@ barred_stands old new m reason look look_notices h e s l is =
     let u = untold h l.0 m (λ b. not_noticed h l.0 m b (barred_undenied h l.0 m waits)) in
     from_rows new (e ∷ h) (at_what (λ f. IsAt new (f ∷ h)) e (Barred m reason) is (record {
       waits = step as_pending (λ q. number_at q new.pending) (λ q. number_at q old.pending) (pending_row (event e.serial e.t (Barred m reason) ∷ h)) (pending_row h) m None None
-        look r.waits refl (barred_row e.serial e.t m reason h);
+          look r.waits refl (barred_row e.serial e.t m reason h);
       owes = step as_notice (λ q. number_at q new.notices) (λ q. number_at q old.notices) (notice_row (event e.serial e.t (Barred m reason) ∷ h)) (notice_row h) m (denied_by reason (number_at m old.pending) (number_at m old.notices)) (denied_view reason (asked_with h m))
-        look_notices r.owes
-        (barred_intent reason h m (number_at m old.pending) (asked_with h m) (number_at m old.notices) on (r.waits m ∙ ap (λ b. cond b (option_map (waiting h) (asked_with h m)) None) waits))
-        (barred_notice e.serial e.t m reason h u);
+          look_notices r.owes
+          (barred_intent reason h m (number_at m old.pending) (asked_with h m) (number_at m old.notices) on (r.waits m ∙ ap (λ b. cond b (option_map (waiting h) (asked_with h m)) None) waits))
+          (barred_notice e.serial e.t m reason h u);
     }))
 
 -- ---- revoked
@@ -128,8 +128,8 @@ revoked_stands old new i reason same look h e s l is lives =
     from_rows new (e ∷ h) (at_what (λ f. IsAt new (f ∷ h)) e (Revoked i.n reason) is (record {
       waits = λ q. ap (λ es. option_map as_pending (number_at q es)) same ∙ r.waits q;
       owes = step as_notice (λ q. number_at q new.notices) (λ q. number_at q old.notices) (notice_row (event e.serial e.t (Revoked i.n reason) ∷ h)) (notice_row h) i.n (Some (record { intent = i; reason = reason; unheard = 0 })) (denied_view reason (asked_with h i.n))
-        look r.owes (ap (denied_view reason) (sym (live_asked h l.0 e.t i _ refl lives)))
-        (revoked_notice e.serial e.t i.n reason h u);
+          look r.owes (ap (denied_view reason) (sym (live_asked h l.0 e.t i _ refl lives)))
+          (revoked_notice e.serial e.t i.n reason h u);
     }))
 
 -- ---- settled
@@ -139,22 +139,22 @@ settle_stands n IsConfirmed old new look h e s is =
     let r = at_rows old h s in
     from_rows new (e ∷ h) (at_what (λ f. IsAt new (f ∷ h)) e (Confirmed n is.0) is.1 (record {
       waits = step as_pending (λ q. number_at q new.pending) (λ q. number_at q old.pending) (pending_row (event e.serial e.t (Confirmed n is.0) ∷ h)) (pending_row h) n None None
-        look.0 r.waits refl (confirmed_row e.serial e.t n is.0 h);
+          look.0 r.waits refl (confirmed_row e.serial e.t n is.0 h);
       owes = λ q. ap (λ es. option_map as_notice (number_at q es)) look.1 ∙ r.owes q;
     }))
 settle_stands n IsDeclined old new look h e s is =
     let r = at_rows old h s in
     from_rows new (e ∷ h) (at_what (λ f. IsAt new (f ∷ h)) e (Declined n is.0) is.1 (record {
       waits = step as_pending (λ q. number_at q new.pending) (λ q. number_at q old.pending) (pending_row (event e.serial e.t (Declined n is.0) ∷ h)) (pending_row h) n None None
-        look.0 r.waits refl (declined_row e.serial e.t n is.0 h);
+          look.0 r.waits refl (declined_row e.serial e.t n is.0 h);
       owes = λ q. ap (λ es. option_map as_notice (number_at q es)) look.1 ∙ r.owes q;
     }))
 settle_stands n IsUnheard old new look h e s is =
     let r = at_rows old h s in
     from_rows new (e ∷ h) (at_what (λ f. IsAt new (f ∷ h)) e (Unheard n) is (record {
       waits = step as_pending (λ q. number_at q new.pending) (λ q. number_at q old.pending) (pending_row (event e.serial e.t (Unheard n) ∷ h)) (pending_row h) n (missed (number_at n old.pending)) (missed_view (pending_row h n))
-        look.0 r.waits (missed_as (number_at n old.pending) ∙ ap missed_view (r.waits n))
-        (λ q. unheard_row e.serial e.t n h q ∙ at_m missed_view (pending_row h) n q (pending_row h q));
+          look.0 r.waits (missed_as (number_at n old.pending) ∙ ap missed_view (r.waits n))
+          (λ q. unheard_row e.serial e.t n h q ∙ at_m missed_view (pending_row h) n q (pending_row h q));
       owes = λ q. ap (λ es. option_map as_notice (number_at q es)) look.1 ∙ r.owes q;
     }))
 settle_stands n (IsNoticed true) old new look h e s is =
@@ -162,15 +162,15 @@ settle_stands n (IsNoticed true) old new look h e s is =
     from_rows new (e ∷ h) (at_what (λ f. IsAt new (f ∷ h)) e (Noticed n true) is (record {
       waits = λ q. ap (λ es. option_map as_pending (number_at q es)) look.1 ∙ r.waits q;
       owes = step as_notice (λ q. number_at q new.notices) (λ q. number_at q old.notices) (notice_row (event e.serial e.t (Noticed n true) ∷ h)) (notice_row h) n None None
-        look.0 r.owes refl (heard_notice e.serial e.t n h);
+          look.0 r.owes refl (heard_notice e.serial e.t n h);
     }))
 settle_stands n (IsNoticed false) old new look h e s is =
     let r = at_rows old h s in
     from_rows new (e ∷ h) (at_what (λ f. IsAt new (f ∷ h)) e (Noticed n false) is (record {
       waits = λ q. ap (λ es. option_map as_pending (number_at q es)) look.1 ∙ r.waits q;
       owes = step as_notice (λ q. number_at q new.notices) (λ q. number_at q old.notices) (notice_row (event e.serial e.t (Noticed n false) ∷ h)) (notice_row h) n (missed_notice (number_at n old.notices)) (missed_notice_view (notice_row h n))
-        look.0 r.owes (missed_notice_as (number_at n old.notices) ∙ ap missed_notice_view (r.owes n))
-        (λ q. unanswered_notice e.serial e.t n h q ∙ at_m missed_notice_view (notice_row h) n q (notice_row h q));
+          look.0 r.owes (missed_notice_as (number_at n old.notices) ∙ ap missed_notice_view (r.owes n))
+          (λ q. unanswered_notice e.serial e.t n h q ∙ at_m missed_notice_view (notice_row h) n q (notice_row h q));
     }))
 
 -- ---- the empty table

@@ -80,9 +80,9 @@ module _ (old new : Rows) (f g : List ℕ → List ℕ → ℕ → Bool) (xs ys 
       record {
         rows = record { ordered = ordered; keyed = keyed_more };
         tracked = tracked_added (intent_at intent old) (intent_at intent new) f g xs i.n i was.tracked
-          (λ q k. above q (is_some_map q (number_at q old) k))
-          (λ q. ap (option_map intent) (rows_more q) ∙ mapped intent (q == i.n) (Some x) (number_at q old))
-          index o ys first list;
+            (λ q k. above q (is_some_map q (number_at q old) k))
+            (λ q. ap (option_map intent) (rows_more q) ∙ mapped intent (q == i.n) (Some x) (number_at q old))
+            index o ys first list;
         counted = counted_more;
       }
 
@@ -118,9 +118,9 @@ module _ (old new : Rows) (f g : List ℕ → List ℕ → ℕ → Bool) (xs ys 
       record {
         rows = record { ordered = ordered; keyed = keyed_less };
         tracked = tracked_without (intent_at intent old) (intent_at intent new) f g xs ys n w.intent o was.tracked
-          (ap (option_map intent) there)
-          (λ q. ap (option_map intent) (rows_less q) ∙ mapped intent (q == n) None (number_at q old))
-          index next rising lists;
+            (ap (option_map intent) there)
+            (λ q. ap (option_map intent) (rows_less q) ∙ mapped intent (q == n) None (number_at q old))
+            index next rising lists;
         counted = less;
       }
     where

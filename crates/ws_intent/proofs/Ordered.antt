@@ -180,9 +180,9 @@ module _ {X : Type 0} (intent : X → Intent) (es : List (ℕ × X)) (is : List 
   same_any test =
       same_bools _ _
       (λ k. any_then (λ (e : ℕ × X). number_at e.0 es ≡ Some e.1) (λ e. test (intent e.1)) (list_any test is ≡ true)
-        (λ e f t. found_passes (λ i. i.n == e.0) test (intent e.1) is (sym (same e.0) ∙ ap (option_map intent) f) t) es (rows_found es rising) k)
+      (λ e f t. found_passes (λ i. i.n == e.0) test (intent e.1) is (sym (same e.0) ∙ ap (option_map intent) f) t) es (rows_found es rising) k)
       (λ k. any_then (λ (j : Intent). find (λ i. i.n == j.n) is ≡ Some j) test (list_any (λ e. test (intent e.1)) es ≡ true)
-        (λ j f t. some_row j.n j test (number_at j.n es) refl (same j.n ∙ f) t) is (each_found is down) k)
+      (λ j f t. some_row j.n j test (number_at j.n es) refl (same j.n ∙ f) t) is (each_found is down) k)
 
   any_same : (f g : ℕ × X → Bool) (fs : List (ℕ × X)) → AllByRecursion (λ e. f e ≡ g e) fs → list_any f fs ≡ list_any g fs
   any_same f g [] a = refl

@@ -126,7 +126,7 @@ module _ (i : Intent) where
   limit t false e = ap (λ b. cond b (Some (seen i (suc t))) None) (no_more t e)
 
   unheard_case : (c s : Bool) (t : ℕ) → cond (not s && nat_lt (cond c (suc t) t) 3) (Some (seen i (cond c (suc t) t))) None
-    ≡ cond c (missed_view (cond (not s && nat_lt t 3) (Some (seen i t)) None)) (cond (not s && nat_lt t 3) (Some (seen i t)) None)
+      ≡ cond c (missed_view (cond (not s && nat_lt t 3) (Some (seen i t)) None)) (cond (not s && nat_lt t 3) (Some (seen i t)) None)
   unheard_case true true t = refl
   unheard_case true false t = limit t (nat_lt t 3) refl
   unheard_case false s t = refl
@@ -138,7 +138,7 @@ unheard_row s t m h q = by (asked_with h q) refl
     e = event s t (Unheard m)
 
     by : (o : Option Intent) → asked_with h q ≡ o → cond (is_pending_number (event s t (Unheard m) ∷ h) q) (option_map (waiting (event s t (Unheard m) ∷ h)) o) None
-      ≡ cond (m == q) (missed_view (cond (is_pending_number h q) (option_map (waiting h) o) None)) (cond (is_pending_number h q) (option_map (waiting h) o) None)
+        ≡ cond (m == q) (missed_view (cond (is_pending_number h q) (option_map (waiting h) o) None)) (cond (is_pending_number h q) (option_map (waiting h) o) None)
     by None k = none_case (m == q) (is_pending_number (event s t (Unheard m) ∷ h) q) (is_pending_number h q)
     by (Some i) k =
         subst (λ n. cond (is_pending_number (event s t (Unheard m) ∷ h) q) (Some (seen i (times (is_unheard n) (event s t (Unheard m) ∷ h)))) None
@@ -177,7 +177,7 @@ pub asked_row : (s t : ℕ) (i : Intent) (h : List Event) → IsNew h i.n → (q
 asked_row s t i h new q = by (i.n == q) refl
   where
     by : (b : Bool) → (i.n == q) ≡ b → cond (is_pending_number h q) (option_map (waiting (event s t (Asked i) ∷ h)) (cond b (Some i) (asked_with h q))) None
-      ≡ cond b (Some (seen i 0)) (pending_row h q)
+        ≡ cond b (Some (seen i 0)) (pending_row h q)
     by true e =
         ap (λ n. cond (is_pending_number h n) (Some (seen i (times (is_unheard i.n) h))) None) (sym (eqb-true i.n q e))
         ∙ ap (λ b. cond (not b && nat_lt (times (is_unheard i.n) h) 3) (Some (seen i (times (is_unheard i.n) h))) None) new.unsettled
@@ -206,7 +206,7 @@ pub record IsUntold (h : List Event) (n : ℕ) : Type 0 where
 
 module _ (m : ℕ) (reason : List ℕ) (h : List Event) (untold : IsUntold h m) (q : ℕ) where
   made : (o : Option Intent) → asked_with h q ≡ o → (m == q) ≡ true
-    → option_map (λ i. owed i (cond (m == i.n) reason (reason_of i.n h)) (times (is_noticed i.n false) h)) o ≡ denied_view reason o
+      → option_map (λ i. owed i (cond (m == i.n) reason (reason_of i.n h)) (times (is_noticed i.n false) h)) o ≡ denied_view reason o
   made None k e = refl
   made (Some i) k e =
       subst (λ n. ◌≡◌ {A = Option OwedNotice} (Some (owed i (cond (m == n) reason (reason_of n h)) (times (is_noticed n false) h))) (Some (owed i reason 0)))
@@ -215,9 +215,9 @@ module _ (m : ℕ) (reason : List ℕ) (h : List Event) (untold : IsUntold h m) 
       ∙ ap (λ c. Some (owed i reason (c))) untold.tried)
 
   pub denied_row : (b : Bool) → (m == q) ≡ b
-    → cond ((b || has (is_denied q) h) && not (has (is_noticed q true) h) && nat_lt (times (is_noticed q false) h) 3)
+      → cond ((b || has (is_denied q) h) && not (has (is_noticed q true) h) && nat_lt (times (is_noticed q false) h) 3)
       (option_map (λ i. owed i (cond (m == i.n) reason (reason_of i.n h)) (times (is_noticed i.n false) h)) (asked_with h q)) None
-    ≡ cond b (denied_view reason (asked_with h m)) (notice_row h q)
+      ≡ cond b (denied_view reason (asked_with h m)) (notice_row h q)
   denied_row true e =
       let s : m ≡ q = eqb-true m q e in
       ap (λ n. cond (not (has (is_noticed n true) h) && nat_lt (times (is_noticed n false) h) 3)
@@ -292,7 +292,7 @@ module _ (i : Intent) (reason : List ℕ) where
   notice_limit t false e = ap (λ b. cond b (Some (owed i reason (suc t))) None) (no_more t e)
 
   unanswered_case : (c d n : Bool) (t : ℕ) → cond (d && not ((c && false) || n) && nat_lt (cond (c && true) (suc t) t) 3) (Some (owed i reason (cond (c && true) (suc t) t))) None
-    ≡ cond c (missed_notice_view (cond (d && not n && nat_lt t 3) (Some (owed i reason t)) None)) (cond (d && not n && nat_lt t 3) (Some (owed i reason t)) None)
+      ≡ cond c (missed_notice_view (cond (d && not n && nat_lt t 3) (Some (owed i reason t)) None)) (cond (d && not n && nat_lt t 3) (Some (owed i reason t)) None)
   unanswered_case true false n t = refl
   unanswered_case true true true t = refl
   unanswered_case true true false t = notice_limit t (nat_lt t 3) refl
@@ -302,7 +302,7 @@ pub unanswered_notice : (s t m : ℕ) (h : List Event) (q : ℕ) → notice_row 
 unanswered_notice s t m h q = by (asked_with h q) refl
   where
     by : (o : Option Intent) → asked_with h q ≡ o → cond (is_owed_notice_number (event s t (Noticed m false) ∷ h) q) (option_map (owed_notice (event s t (Noticed m false) ∷ h)) o) None
-      ≡ cond (m == q) (missed_notice_view (cond (is_owed_notice_number h q) (option_map (owed_notice h) o) None)) (cond (is_owed_notice_number h q) (option_map (owed_notice h) o) None)
+        ≡ cond (m == q) (missed_notice_view (cond (is_owed_notice_number h q) (option_map (owed_notice h) o) None)) (cond (is_owed_notice_number h q) (option_map (owed_notice h) o) None)
     by None k = none_told (m == q) (is_owed_notice_number (event s t (Noticed m false) ∷ h) q) (is_owed_notice_number h q)
     by (Some i) k =
         subst (λ n. cond (is_owed_notice_number (event s t (Noticed m false) ∷ h) q) (Some (owed i (reason_of i.n h) (times (is_noticed n false) (event s t (Noticed m false) ∷ h)))) None

@@ -8,6 +8,7 @@ use std::collections::{BTreeMap, BTreeSet};
 use ws_model::NoMemory;
 
 pub type ByCallback = BTreeMap<Vec<u8>, BTreeSet<u64>>;
+
 pub type PairIndex = BTreeMap<Vec<u8>, ByCallback>;
 
 /// The least number at a topic and a callback.

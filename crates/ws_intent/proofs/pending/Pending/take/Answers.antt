@@ -11,7 +11,7 @@ use Rattle.ws_intent.proofs.pending.Pending.take.Goals as goal
 pub one_less-self-inside-requires : goal.one_less-self-inside-requires
 one_less-self-inside-requires c =
     let a : c.self.inside.subscriptions ≡ sum_by weight (values_of (remove_entry (is_at (nat_cmp c.args.n)) c.self.inside.by_number.entries)) + weight c.in_ok-waiting.waiting =
-      counted_less c.self.inside.by_number.entries c.args.n c.self.inside.subscriptions c.in_ok-waiting.waiting (sym c.in_ok-waiting.ensures.value) c.self.invariant.counted in
+    counted_less c.self.inside.by_number.entries c.args.n c.self.inside.subscriptions c.in_ok-waiting.waiting (sym c.in_ok-waiting.ensures.value) c.self.invariant.counted in
     omega arith
 
 pub invariant_of-self-2 : goal.invariant_of-self-2

@@ -1,4 +1,5 @@
 use crate::{Due, Intents, Settle};
+use std::alloc::Global;
 use std::test::Fail;
 use ws_model::{Alg, Bytes, Held, Intent, Mode, NoMemory, Work};
 
@@ -81,7 +82,7 @@ fn barred_and_revoked_notices(rt: HostRuntime) -> Result<(), Fail> {
     assert!(rt; intents.pending() == 0 && intents.notices() == 2);
     assert!(rt; intents.waiting(2).is_none());
     let reason = match intents.notice(2) {
-        Some(denial) => denial.reason.as_slice() == b"topic not allowed",
+        Some(denial) => denial.reason.as_slice() == b"topic not allowed".as_slice(),
         None => false,
     };
     assert!(rt; reason);

@@ -1,0 +1,10 @@
+pub mod Keyed
+pub mod Rises
+pub mod Risen
+pub mod Tracked
+pub mod Firsts
+pub mod Indexing
+pub mod Standing
+pub mod Changes
+pub mod Ordered
+pub mod Asking

@@ -1,0 +1,7 @@
+mod Files
+mod Gates
+mod Halves
+mod Moments
+mod Readings
+mod Records
+mod Standing

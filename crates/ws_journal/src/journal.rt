@@ -1,0 +1,27 @@
+// A journal: which device counts, and how far it goes.
+ghost use Rattle.std.specs.Prelude.{◌≤◌, ◌<◌, ◌^◌};
+
+use crate::store::{Edition, Side};
+
+/// What a failed call left open.
+#[derive(Clone, Copy, Debug, PartialEq, Eq)]
+pub(crate) enum Doubt {
+    Nothing,
+    /// The gate of the last batch: its write was begun, and not confirmed.
+    Batch,
+}
+
+/// A journal of batches on two devices.
+#[derive(Debug, Drop)]
+pub struct Journal {
+    pub(crate) side: Side,
+    pub(crate) edition: Edition,
+    pub(crate) generation: u64,
+    /// The place behind the last gate.
+    pub(crate) tail: u64,
+    /// What the tail may come to, in bytes.
+    pub(crate) limit: u64,
+    pub(crate) doubt: Doubt,
+    ghost limited: { limit ≤ 2 ^ 30 },
+    ghost begun: { 17 < tail },
+}

@@ -1,3 +1,4 @@
+mod Appending
 mod Files
 mod Gates
 mod Halves

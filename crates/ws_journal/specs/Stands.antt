@@ -1,5 +1,5 @@
 -- What a journal stands for, on the two devices of its store (own).
-use Rattle.std.specs.Prelude.{◌≡◌, ◌⊎◌, ℕ, ◌≤◌, ◌+◌, List, [], ◌∷◌, ◌++◌, length, Option, Some, None, All, Result, Ok, Err, IsErr}
+use Rattle.std.specs.Prelude.{◌≡◌, ◌⊎◌, ℕ, ◌<◌, ◌≤◌, ◌+◌, List, [], ◌∷◌, ◌++◌, length, Option, Some, None, All, Result, Ok, Err, IsErr}
 use Rattle.ws_disk.specs.Crash.{LeavesOnly}
 use Rattle.ws_journal.specs.declared.store.Edition.TheVariants.{Second}
 use Rattle.ws_journal.specs.declared.store.Side.{Side}
@@ -44,10 +44,16 @@ pub record Counts (journal : Journal) (begun : List ℕ) (doubt : Option (List �
   pub each : Each images (IsLeft begun doubt)
   pub known : journal.doubt ≡ doubt_of doubt
 
+-- a batch in doubt is one batch
+abbrev pub IsDoubted : Option (List ℕ) → Type 0
+IsDoubted None = Unit {0}
+IsDoubted (Some payload) = IsPayload payload
+
 -- The journal stands for the batches of these texts, beside the batch in doubt: a crash now leaves nothing else.
 pub record Stands {D : Type 0} (moment : D → ℕ) (images : D → ℕ → List ℕ → Type 0) (journal : Journal) (store : Store D) (payloads : List (List ℕ)) (doubt : Option (List ℕ)) : Type 0 where
   pub generation : IsGeneration journal.edition journal.generation
   pub batches : All IsPayload payloads
+  pub doubted : IsDoubted doubt
   pub device : Counts journal (front journal.edition journal.generation payloads) doubt (images (counting journal.side store) (moment (counting journal.side store)))
   pub rest : Each (images (other journal.side store) (moment (other journal.side store))) (IsBelow journal.generation)
 
@@ -86,3 +92,53 @@ Appends old new begun doubt payload images (Ok done) = Counts new (begun ++ 1 �
 Appends old new begun doubt payload images (Err Disk) = (after : Option (List ℕ)) × MayDoubt doubt payload after × Counts new begun after images
 Appends old new begun doubt payload images (Err (Full tail asked)) = ⊥
 Appends old new begun doubt payload images (Err NoMemory) = ⊥
+
+-- two files, one of the device that counts, read as these batches, or as these and one more
+abbrev pub ReadsEither : Journal → List (List ℕ) → List ℕ → List ℕ → List ℕ → Type 0
+ReadsEither journal payloads payload file second =
+    ReadsAs journal.side file second (found journal.edition journal.generation payloads)
+    ⊎ ReadsAs journal.side file second (found journal.edition journal.generation (payloads ++ payload ∷ []))
+
+-- or as these with the batch that was in doubt
+abbrev pub MayRead : Journal → List (List ℕ) → Option (List ℕ) → List ℕ → List ℕ → List ℕ → Type 0
+MayRead journal payloads None payload file second = ReadsEither journal payloads payload file second
+MayRead journal payloads (Some doubted) payload file second =
+    ReadsEither journal payloads payload file second
+    ⊎ ReadsAs journal.side file second (found journal.edition journal.generation (payloads ++ doubted ∷ []))
+
+-- A crash at any moment of a call leaves two files that read as these batches, or with the new one, or with the one that
+-- was in doubt. The other device isn't touched.
+pub record AppendCrash {D : Type 0} (moment : D → ℕ) (images : D → ℕ → List ℕ → Type 0) (journal : Journal) (old new : Store D) (payloads : List (List ℕ)) (doubt : Option (List ℕ)) (payload : List ℕ) : Type 0 where
+  pub each : (file second : List ℕ) → images (counting journal.side new) (moment (counting journal.side old)) file
+      → images (other journal.side new) (moment (other journal.side new)) second → MayRead journal payloads doubt payload file second
+  -- for a run that began earlier
+  pub before : (t : ℕ) (file second : List ℕ) → t ≤ moment (counting journal.side old) → images (counting journal.side new) t file
+      → images (other journal.side new) (moment (other journal.side new)) second → images (counting journal.side old) t file ⊎ MayRead journal payloads doubt payload file second
+  pub later : moment (counting journal.side old) ≤ moment (counting journal.side new)
+  pub untouched : other journal.side new ≡ other journal.side old
+
+-- A batch in doubt is closed first: from some moment of the call on no image reads with it. Or the call failed, and it is
+-- still in doubt.
+abbrev pub DoubtClosed : {D : Type 0} → (D → ℕ) → (D → ℕ → List ℕ → Type 0) → Journal → Journal → Store D → Store D → List (List ℕ) → Option (List ℕ) → List ℕ → Result (Unit {0}) AppendFault → Type 0
+DoubtClosed moment images journal after old new payloads doubt payload result =
+    ((settled : ℕ) × (moment (counting journal.side old) ≤ settled) × (settled ≤ moment (counting journal.side new))
+    × ((file second : List ℕ) → images (counting journal.side new) settled file → images (other journal.side new) (moment (other journal.side new)) second
+    → ReadsEither journal payloads payload file second))
+    ⊎ (IsErr result × Stands moment images after new payloads doubt)
+
+-- what the journal stands for after an append
+abbrev pub Appended : {D : Type 0} → (D → ℕ) → (D → ℕ → List ℕ → Type 0) → Journal → Store D → List (List ℕ) → Option (List ℕ) → List ℕ → Result (Unit {0}) AppendFault → Type 0
+Appended moment images journal store payloads doubt payload (Ok done) = Stands moment images journal store (payloads ++ payload ∷ []) None
+Appended moment images journal store payloads doubt payload (Err Disk) =
+    (after : Option (List ℕ)) × MayDoubt doubt payload after × Stands moment images journal store payloads after
+Appended moment images journal store payloads doubt payload (Err (Full tail asked)) = Stands moment images journal store payloads doubt
+Appended moment images journal store payloads doubt payload (Err NoMemory) = ⊥
+
+-- a record of this payload would pass the limit
+abbrev pub PassesLimit : Journal → List ℕ → Type 0
+PassesLimit journal payload = journal.limit < journal.tail + (length payload + 37)
+
+-- Full comes exactly there, with its numbers
+pub record FullExactly (journal : Journal) (payload : List ℕ) (result : Result (Unit {0}) AppendFault) : Type 0 where
+  pub always : PassesLimit journal payload → result ≡ Err (Full journal.tail (length payload + 37))
+  pub only : (tail asked : ℕ) → result ≡ Err (Full tail asked) → PassesLimit journal payload

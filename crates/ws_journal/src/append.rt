@@ -1,16 +1,16 @@
 // Appending a batch to the device that counts.
-ghost use Rattle.std.specs.Prelude.{◌≡◌, ◌≤◌, ◌+◌, ◌^◌, ◌<◌, ◌∷◌, ◌++◌, [], ◌↔◌, ◌⊎◌, List, ℕ, length, take, Option, Some, None, OnOk, OnErr, IsErr, IsErrOf};
-ghost use Rattle.ws_model.specs.Cause.{HasCause};
+ghost use Rattle.std.specs.Prelude.{◌≡◌, ◌≤◌, ◌+◌, ◌^◌, ◌<◌, ◌∷◌, ◌++◌, [], ◌↔◌, ◌⊎◌, List, ℕ, length, take, Option, Some, None, Err, OnOk, OnErr, IsErr, IsErrOf};
+ghost use Rattle.ws_model.specs.Cause.{HasCause, Rose};
 ghost use Rattle.ws_disk.specs.Crash.{LeavesOnly};
 ghost use Rattle.ws_journal.specs.declared.append.Stop.TheVariants.{Before, InDoubt};
 ghost use Rattle.ws_journal.specs.declared.store.Edition.TheVariants.{Second};
-ghost use Rattle.ws_journal.specs.Text.{record_text};
+ghost use Rattle.ws_journal.specs.Text.{record_text, IsPayload};
 ghost use Rattle.ws_journal.specs.Kept.{IsShut, IsInDoubt, IsWithOrWithout, Each};
 
 use crate::gate::set_gate;
 use crate::journal::{Doubt, Journal};
 use crate::record::put_record;
-use crate::store::AppendFault;
+use crate::store::{AppendFault, Side, Store};
 use ws_disk::{Disk, DiskFailed};
 
 /// What a record of edition 2 has beside its payload: its gate, its length and its digest.
@@ -58,7 +58,7 @@ fn append_record<D: Disk>(disk: &mut D, tail: u64, payload: &[u8]) -> Result<(),
 }
 
 impl Journal {
-    ghost use Rattle.ws_journal.specs.Stands.{IsLeft, Counts, SameJournal, Closes, ClosesFirst, Appends};
+    ghost use Rattle.ws_journal.specs.Stands.{IsLeft, Counts, SameJournal, Closes, ClosesFirst, Appends, Stands, counting, AppendCrash, DoubtClosed, Appended, PassesLimit, FullExactly};
 
     /// Closes the gate of the device that counts where it is in doubt.
     fn close_doubt<D: Disk>(&mut self, disk: &mut D) -> Result<(), DiskFailed>
@@ -92,6 +92,7 @@ impl Journal {
         ensures appends { (front : List ℕ) (doubt : Option (List ℕ)) → D.honest disk.old → Counts self.old front doubt (D.images disk.old (D.moment disk.old))
             → Appends self.old self.new front doubt payload.now (D.images disk.new (D.moment disk.new)) result }
         ensures same { SameJournal self.old self.new }
+        ensures only_disk { IsErr result → result ≡ Err AppendFault.Disk }
         ensures honesty { D.honest disk.new ↔ D.honest disk.old }
         ensures cause { HasCause (D.faults disk.old) (D.faults disk.new) result }
     {
@@ -106,6 +107,51 @@ impl Journal {
                 self.doubt = Doubt::Batch;
                 Err(AppendFault::Disk)
             }
+        }
+    }
+
+    /// Appends a batch, whose text this is, and confirms it. It takes no memory.
+    ///
+    /// The journal is of edition 2, and the store is the one that it was recovered from, changed since by
+    /// its own calls alone.
+    ///
+    /// # Errors
+    ///
+    /// `Full` where the record would pass the limit, before any call of a device. `Disk` where a device
+    /// failed: the batch is then in doubt where its gate's write was begun, and the next call closes that
+    /// gate before it writes anything else.
+    pub fn append<D: Disk>(
+        &mut self,
+        store: &mut Store<D>,
+        payload: &[u8],
+    ) -> Result<(), AppendFault>
+        requires edition { self.old.edition ≡ Second }
+        requires batch { IsPayload payload.now }
+        requires stands { D.honest (counting self.old.side store.old) → (payloads : List (List ℕ)) × (doubt : Option (List ℕ)) × Stands D.moment D.images self.old store.old payloads doubt }
+        ensures full { FullExactly self.old payload.now result }
+        ensures untouched { PassesLimit self.old payload.now → (store.new ≡ store.old) × (self.new ≡ self.old) }
+        // A crash at any moment of the call leaves the batches before it, with the new one or without.
+        ensures any_moment { (payloads : List (List ℕ)) (doubt : Option (List ℕ)) → D.honest (counting self.old.side store.old) → Stands D.moment D.images self.old store.old payloads doubt
+            → AppendCrash D.moment D.images self.old store.old store.new payloads doubt payload.now }
+        ensures doubt_closed { (payloads : List (List ℕ)) (doubt : Option (List ℕ)) → D.honest (counting self.old.side store.old) → Stands D.moment D.images self.old store.old payloads doubt
+            → (PassesLimit self.old payload.now → ⊥) → DoubtClosed D.moment D.images self.old self.new store.old store.new payloads doubt payload.now result }
+        ensures appended { (payloads : List (List ℕ)) (doubt : Option (List ℕ)) → D.honest (counting self.old.side store.old) → Stands D.moment D.images self.old store.old payloads doubt
+            → Appended D.moment D.images self.new store.new payloads doubt payload.now result }
+        ensures same { SameJournal self.old self.new }
+        ensures honesty { D.honest (counting self.old.side store.new) ↔ D.honest (counting self.old.side store.old) }
+        ensures later { D.faults (counting self.old.side store.old) ≤ D.faults (counting self.old.side store.new) }
+        ensures cause { result ≡ Err AppendFault.Disk → Rose (D.faults (counting self.old.side store.old)) (D.faults (counting self.old.side store.new)) }
+    {
+        let asked = payload.len() as u64 + RECORD_BYTES;
+        if asked > self.limit || self.tail > self.limit - asked {
+            return Err(AppendFault::Full {
+                tail: self.tail,
+                asked,
+            });
+        }
+        match self.side {
+            Side::A => self.append_to(&mut store.a, payload),
+            Side::B => self.append_to(&mut store.b, payload),
         }
     }
 }

@@ -1,7 +1,8 @@
 -- What a journal stands for, on the two devices of its store (own).
 use Rattle.std.specs.Prelude.{◌≡◌, ◌⊎◌, ℕ, ◌<◌, ◌≤◌, ◌+◌, List, [], ◌∷◌, ◌++◌, length, Option, Some, None, All, Result, Ok, Err, IsErr}
 use Rattle.ws_disk.specs.Crash.{LeavesOnly}
-use Rattle.ws_journal.specs.declared.store.Edition.TheVariants.{Second}
+use Rattle.ws_journal.specs.declared.store.Edition.{Edition}
+use Rattle.ws_journal.specs.declared.store.Edition.TheVariants.{First, Second}
 use Rattle.ws_journal.specs.declared.store.Side.{Side}
 use Rattle.ws_journal.specs.declared.store.Side.TheVariants.{A, B}
 use Rattle.ws_journal.specs.declared.store.Store.{Store}
@@ -14,6 +15,10 @@ use Rattle.ws_journal.specs.declared.journal.Doubt.TheVariants.{Nothing, Batch}
 use Rattle.ws_journal.specs.Text.{front, record_text, IsPayload}
 use Rattle.ws_journal.specs.Image.{Reading, found, Reads, IsGeneration, IsBelow}
 use Rattle.ws_journal.specs.Kept.{IsShut, IsInDoubt, IsWithOrWithout, Each}
+
+abbrev pub edition_number : Edition → ℕ
+edition_number First = 1
+edition_number Second = 2
 
 -- the device that counts, and the other one
 abbrev pub counting : {D : Type 0} → Side → Store D → D

@@ -25,3 +25,32 @@ pub struct Journal {
     ghost limited: { limit ≤ 2 ^ 30 },
     ghost begun: { 17 < tail },
 }
+
+impl Journal {
+    ghost use Rattle.std.specs.Prelude.{◌≡◌};
+    ghost use Rattle.ws_journal.specs.Stands.{edition_number};
+
+    /// The place behind the last gate of the device that counts, in bytes.
+    pub fn tail(&self) -> u64
+        ensures { result ≡ self.now.tail }
+    {
+        self.tail
+    }
+
+    /// The edition of the device that counts: 1 or 2.
+    pub fn edition(&self) -> u8
+        ensures { result ≡ edition_number self.now.edition }
+    {
+        match self.edition {
+            Edition::First => 1,
+            Edition::Second => 2,
+        }
+    }
+
+    /// The generation of the device that counts.
+    pub fn generation(&self) -> u64
+        ensures { result ≡ self.now.generation }
+    {
+        self.generation
+    }
+}

@@ -6,6 +6,8 @@ mod gate;
 mod journal;
 mod record;
 mod store;
+#[cfg(test)]
+mod tests;
 
 pub use journal::Journal;
 pub use store::{AppendFault, Edition, Store};

@@ -1,5 +1,5 @@
 -- What an append to the device that counts means for the two devices.
-use Rattle.std.proofs.Common.{◌≡◌, ◌⊎◌, ⊎_elim, inl, inr, ◌+◌, ◌≤◌, ◌∷◌, [], ◌++◌, ℕ, List, Option, Some, None, Result, Ok, Err, IsErr, length, refl, sym, ◌∙◌, ap, subst, arith}
+use Rattle.std.proofs.Common.{◌≡◌, ◌⊎◌, ⊎_elim, inl, inr, ◌+◌, ◌≤◌, ◌∷◌, [], ◌++◌, ℕ, List, Option, Some, None, Result, Ok, Err, length, refl, sym, ◌∙◌, ap, subst, arith}
 use Rattle.std.specs.Prelude.{All}
 use Rattle.std.proofs.lemmas.List.Elements.{All-push}
 use Rattle.ws_disk.specs.Crash.{LeavesOnly}
@@ -13,7 +13,7 @@ use Rattle.ws_journal.specs.declared.store.AppendFault.TheVariants.{Disk, Full, 
 use Rattle.ws_journal.specs.declared.journal.Journal.{Journal}
 use Rattle.ws_journal.specs.Text.{front, record_text, IsPayload}
 use Rattle.ws_journal.specs.Image.{found, IsGeneration, IsBelow}
-use Rattle.ws_journal.specs.Kept.{IsShut, IsInDoubt, IsWithOrWithout, Each}
+use Rattle.ws_journal.specs.Kept.{IsShut, IsWithOrWithout, Each}
 use Rattle.ws_journal.specs.Stands.{counting, other, ReadsAs, IsLeft, IsDoubted, Counts, Stands, SameJournal, MayDoubt, Appends, ClosesFirst, ReadsEither, MayRead, AppendCrash, DoubtClosed, Appended}
 use Rattle.ws_disk.proofs.Goes.{started}
 use Rattle.ws_journal.proofs.Files.{doubt_either, shut_within}

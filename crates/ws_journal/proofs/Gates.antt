@@ -1,7 +1,7 @@
 -- The moments of the two parts of an append.
-use Rattle.std.proofs.Common.{◌≡◌, ◌+◌, ◌∷◌, [], ◌++◌, ◌<◌, ◌≤◌, ℕ, List, length, sym, ◌∙◌, ap, subst, arith}
-use Rattle.ws_disk.specs.Crash.{overwritten, Torn, Only, LeavesOnly}
-use Rattle.ws_journal.specs.Kept.{IsShut, IsInDoubt, IsWithOrWithout, After, Keeps, Each}
+use Rattle.std.proofs.Common.{◌≡◌, ◌+◌, ◌∷◌, [], ◌++◌, ℕ, List, length, sym, ◌∙◌, ap, subst}
+use Rattle.ws_disk.specs.Crash.{overwritten, Torn, LeavesOnly}
+use Rattle.ws_journal.specs.Kept.{IsShut, IsInDoubt, After, Keeps, Each}
 use Rattle.ws_journal.proofs.Files.{keeps_shut}
 use Rattle.ws_journal.proofs.Records.{staged, stays_in_doubt}
 use Rattle.ws_journal.proofs.Moments.{weaker}

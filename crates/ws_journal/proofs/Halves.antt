@@ -1,5 +1,5 @@
 -- An array that is filled in two parts.
-use Rattle.std.proofs.Common.{◌≡◌, ◌+◌, ◌≤◌, ℕ, List, [], ◌++◌, length, take, drop, refl, sym, ◌∙◌, ap, arith, length-append, take-append-drop}
+use Rattle.std.proofs.Common.{◌≡◌, ℕ, List, [], ◌++◌, length, take, drop, sym, ◌∙◌, ap, arith, length-append, take-append-drop}
 use Rattle.std.proofs.lemmas.List.{take_at, drop_all, append-nil}
 use Rattle.std.proofs.lemmas.Slice.{take-put_mid, drop-put_mid}
 use borrow.Rule.Slice.PartMut.{put_mid}

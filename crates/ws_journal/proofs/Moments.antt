@@ -1,5 +1,5 @@
 -- How runs of calls of a disk join.
-use Rattle.std.proofs.Common.{◌⊎◌, ⊎_elim, inl, inr, ℕ, ◌≤◌, List, Result, Ok, Err, OnOk, arith}
+use Rattle.std.proofs.Common.{⊎_elim, inl, inr, ℕ, ◌≤◌, List, Result, Ok, Err, OnOk, arith}
 use Rattle.ws_disk.specs.Crash.{Follows, NoMore, Elapses, LeavesOnly}
 use Rattle.ws_disk.proofs.Goes.{started, goes_on}
 use Rattle.ws_journal.specs.Kept.{After, Each}

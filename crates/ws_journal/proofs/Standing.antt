@@ -1,5 +1,5 @@
 -- What the calls of a journal leave of the device that counts.
-use Rattle.std.proofs.Common.{◌≡◌, ◌+◌, ◌-◌, ◌∷◌, [], ◌++◌, ℕ, List, Option, Some, None, Result, Ok, Err, length, sym, ◌∙◌, ap, subst, arith}
+use Rattle.std.proofs.Common.{◌≡◌, ◌-◌, ◌∷◌, [], ℕ, List, Option, Some, None, Result, Ok, Err, length, sym, ◌∙◌, ap, subst, arith}
 use Rattle.std.specs.Prelude.{IsErrAnd}
 use Rattle.ws_disk.specs.Crash.{overwritten, Torn, LeavesOnly}
 use Rattle.ws_disk.specs.declared.disk.DiskFailed.{DiskFailed}
@@ -9,7 +9,7 @@ use Rattle.ws_journal.specs.declared.journal.Doubt.{Doubt}
 use Rattle.ws_journal.specs.declared.journal.Doubt.TheVariants.{Nothing, Batch}
 use Rattle.ws_journal.specs.Text.{record_text}
 use Rattle.ws_journal.specs.Kept.{IsShut, After}
-use Rattle.ws_journal.specs.Stands.{IsLeft, doubt_of, Counts, Closes}
+use Rattle.ws_journal.specs.Stands.{IsLeft, Counts, Closes}
 use Rattle.ws_journal.proofs.Gates.{while_gate}
 use Rattle.ws_journal.proofs.Records.{closed}
 

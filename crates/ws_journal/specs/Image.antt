@@ -1,11 +1,11 @@
 -- What two devices read as (own): a reading of two lists of bytes, with no case for the order of writes.
-use Rattle.std.specs.Prelude.{◌≡◌, ◌≢◌, ◌⊎◌, ℕ, ◌<◌, ◌≤◌, ◌+◌, ◌-◌, ◌^◌, List, [], ◌∷◌, ◌++◌, length, slice_index, take, drop, All}
+use Rattle.std.specs.Prelude.{◌≡◌, ◌≢◌, ◌⊎◌, ℕ, ◌<◌, ◌≤◌, ◌+◌, ◌-◌, ◌^◌, List, ◌∷◌, ◌++◌, length, slice_index, take, drop, All}
 use Rattle.std.specs.Int.{w32}
 use Rattle.sha2.specs.Sha256.{sha256}
 use Rattle.ws_record.specs.Text.{number_text}
 use Rattle.ws_journal.specs.declared.store.Edition.{Edition}
 use Rattle.ws_journal.specs.declared.store.Edition.TheVariants.{First, Second}
-use Rattle.ws_journal.specs.Text.{name_text, head_text, records, record_text, IsPayload}
+use Rattle.ws_journal.specs.Text.{name_text, head_text, records, IsPayload}
 
 -- what two devices read as: no device is used; one counts, of this edition and generation, with these batches' texts;
 -- or there is a fault at this place of a device, an altered payload with the kept digest and the one that it has

@@ -1,5 +1,5 @@
 -- What the journal's writes leave of the device that counts (own).
-use Rattle.std.specs.Prelude.{◌≡◌, ◌≢◌, ◌⊎◌, ℕ, ◌≤◌, ◌+◌, min, List, ◌∷◌, ◌++◌, length, take}
+use Rattle.std.specs.Prelude.{◌≡◌, ◌≢◌, ◌⊎◌, ℕ, ◌≤◌, List, ◌∷◌, ◌++◌, length}
 use Rattle.ws_disk.specs.Crash.{SameBefore}
 
 -- this, and then a gate that isn't open

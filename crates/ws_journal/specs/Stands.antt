@@ -1,6 +1,5 @@
 -- What a journal stands for, on the two devices of its store (own).
 use Rattle.std.specs.Prelude.{◌≡◌, ◌⊎◌, ℕ, ◌<◌, ◌≤◌, ◌+◌, List, [], ◌∷◌, ◌++◌, length, Option, Some, None, All, Result, Ok, Err, IsErr}
-use Rattle.ws_disk.specs.Crash.{LeavesOnly}
 use Rattle.ws_journal.specs.declared.store.Edition.{Edition}
 use Rattle.ws_journal.specs.declared.store.Edition.TheVariants.{First, Second}
 use Rattle.ws_journal.specs.declared.store.Side.{Side}

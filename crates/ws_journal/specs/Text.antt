@@ -1,5 +1,5 @@
 -- The texts on a journal's device (own): numbers are unsigned and big-endian.
-use Rattle.std.specs.Prelude.{◌≡◌, ℕ, ◌<◌, ◌+◌, ◌-◌, ◌^◌, List, [], ◌∷◌, ◌++◌, length}
+use Rattle.std.specs.Prelude.{◌≡◌, ℕ, ◌<◌, ◌^◌, List, [], ◌∷◌, ◌++◌, length}
 use Rattle.std.specs.Int.{w32, w64}
 use Rattle.sha2.specs.Sha256.{sha256}
 use Rattle.ws_model.specs.declared.event.Event.{Event}

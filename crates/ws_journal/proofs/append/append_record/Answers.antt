@@ -1,8 +1,8 @@
-use Rattle.std.proofs.Common.{◌≡◌, ◌+◌, ◌-◌, ◌∷◌, [], ◌++◌, ℕ, List, length, inl, sym, ◌∙◌, ap, subst, arith}
-use Rattle.ws_disk.specs.Crash.{overwritten, LeavesOnly}
+use Rattle.std.proofs.Common.{◌≡◌, ◌-◌, ◌∷◌, [], ◌++◌, ℕ, List, length, inl, sym, ◌∙◌, ap, subst, arith}
+use Rattle.ws_disk.specs.Crash.{overwritten}
 use Rattle.ws_journal.specs.declared.store.Edition.TheVariants.{Second}
 use Rattle.ws_journal.specs.Text.{record_text}
-use Rattle.ws_journal.specs.Kept.{IsShut, IsInDoubt, IsWithOrWithout, Each}
+use Rattle.ws_journal.specs.Kept.{IsShut, IsInDoubt, IsWithOrWithout}
 use Rattle.ws_journal.proofs.Files.{doubt_either}
 use Rattle.ws_journal.proofs.Records.{reaches, opened}
 use Rattle.ws_journal.proofs.Moments.{weaker, then_run, at_end}

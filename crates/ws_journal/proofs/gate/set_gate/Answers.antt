@@ -1,5 +1,5 @@
-use Rattle.std.proofs.Common.{◌∷◌, [], Result, Ok, Err, OnOk, ◌∙◌, ap}
-use Rattle.ws_disk.specs.Crash.{overwritten, Torn}
+use Rattle.std.proofs.Common.{Result, Ok, Err, OnOk, ◌∙◌}
+use Rattle.ws_disk.specs.Crash.{Torn}
 use Rattle.ws_journal.specs.Kept.{After}
 use Rattle.ws_journal.proofs.Files.{Torn-refl}
 use Rattle.ws_journal.proofs.Moments.{wrote, then_sync}

@@ -1,9 +1,9 @@
-use Rattle.std.proofs.Common.{◌≡◌, ◌+◌, ◌∷◌, [], ◌++◌, ℕ, List, Result, Ok, Err, OnOk, length, ◌∙◌, ap, arith}
-use Rattle.ws_disk.specs.Crash.{overwritten, Torn}
+use Rattle.std.proofs.Common.{◌+◌, ◌∷◌, [], ℕ, List, Result, Ok, Err, OnOk, length, ◌∙◌, ap, arith}
+use Rattle.ws_disk.specs.Crash.{overwritten}
 use Rattle.ws_journal.specs.Kept.{After, Keeps}
 use Rattle.ws_journal.proofs.Files.{Keeps-trans, Torn-keeps}
 use Rattle.ws_journal.proofs.Records.{record_closed, reaches_record}
-use Rattle.ws_journal.proofs.Moments.{then_wrote, then_sync, Follows-map, OnOk-map, at_end}
+use Rattle.ws_journal.proofs.Moments.{then_wrote, then_sync, Follows-map, at_end}
 use Rattle.ws_journal.proofs.record.put_record.Goals as goal
 
 pub write_at-requires : goal.write_at-requires

@@ -1,6 +1,6 @@
 use Rattle.std.proofs.Common.{◌≡◌, ◌+◌, ℕ, List, length, ◌∙◌, ap, arith}
-use Rattle.ws_disk.specs.Crash.{overwritten, Torn}
-use Rattle.ws_journal.specs.Kept.{After, Keeps}
+use Rattle.ws_disk.specs.Crash.{overwritten}
+use Rattle.ws_journal.specs.Kept.{Keeps}
 use Rattle.ws_journal.proofs.Files.{Keeps-refl, Keeps-trans, Torn-keeps}
 use Rattle.ws_journal.proofs.Records.{record_written, reaches_head}
 use Rattle.ws_journal.proofs.Moments.{wrote, then_wrote, Follows-map, OnOk-map}

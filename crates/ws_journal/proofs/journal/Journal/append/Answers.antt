@@ -1,4 +1,4 @@
-use Rattle.std.proofs.Common.{◌≡◌, ℕ, List, Option, Result, Ok, Err, IsErr, refl, sym, subst, arith, rules}
+use Rattle.std.proofs.Common.{◌≡◌, ℕ, Result, Ok, Err, IsErr, refl, sym, subst, arith}
 use Rattle.ws_journal.specs.declared.store.Side.{Side}
 use Rattle.ws_journal.specs.declared.store.Side.TheVariants.{A, B}
 use Rattle.ws_journal.specs.declared.store.AppendFault.{AppendFault}

@@ -1,4 +1,4 @@
-use Rattle.std.proofs.Common.{◌≡◌, ◌⊎◌, ◌+◌, ◌∷◌, [], ◌++◌, ℕ, List, Option, Some, None, length, inl, inr, refl, sym, arith, length-append}
+use Rattle.std.proofs.Common.{◌⊎◌, ◌∷◌, ℕ, List, Some, None, inl, inr, refl, sym, arith, length-append}
 use Rattle.ws_journal.specs.declared.store.Edition.TheVariants.{Second}
 use Rattle.ws_journal.specs.Text.{record_text}
 use Rattle.ws_journal.specs.Kept.{IsWithOrWithout}

@@ -1,4 +1,4 @@
-use Rattle.std.proofs.Common.{◌≡◌, ◌+◌, ◌-◌, ◌∷◌, [], ℕ, List, Option, length, refl, sym, ◌∙◌, ap, subst, arith, rules}
+use Rattle.std.proofs.Common.{◌≡◌, ◌-◌, ◌∷◌, [], length, refl, sym, ap, subst, arith, rules}
 use Rattle.ws_journal.specs.declared.journal.Doubt.TheVariants.{Batch}
 use Rattle.ws_journal.specs.Kept.{IsShut}
 use Rattle.ws_journal.specs.Stands.{IsLeft}

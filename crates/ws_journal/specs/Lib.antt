@@ -1,0 +1,4 @@
+pub mod Image
+pub mod Kept
+pub mod Stands
+pub mod Text

@@ -1,0 +1,13 @@
+//! A journal of batches of events on two devices, which a crash at any moment leaves readable.
+#![tactic(auto)]
+
+mod append;
+mod gate;
+mod journal;
+mod record;
+mod store;
+#[cfg(test)]
+mod tests;
+
+pub use journal::Journal;
+pub use store::{AppendFault, Edition, Store};

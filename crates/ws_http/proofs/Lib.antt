@@ -18,3 +18,4 @@ pub mod ReplyPieceLemmas
 pub mod UniqueLemmas
 pub mod OneReplyLemmas
 pub mod OneRequestLemmas
+pub mod ReadBackLemmas

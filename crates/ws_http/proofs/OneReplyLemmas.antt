@@ -1,9 +1,7 @@
 -- The bytes of a response have one verdict.
 use Rattle.std.proofs.Common.{◌≡◌, ℕ, ◌+◌, ◌-◌, ◌<◌, ◌≤◌, Bool, true, false, List, [], ◌∷◌, ◌++◌, length, take, drop, refl, sym, ap, ◌∙◌, subst, arith, append_assoc, append-nil, Option, Some, None, inl, inr}
-use Rattle.std.specs.Prelude.{◌⊎◌, MatchBool, nat_lt, nat_le, min}
-use Rattle.std.proofs.lemmas.Bool.{false≢true}
+use Rattle.std.specs.Prelude.{MatchBool, nat_lt, nat_le, min}
 use Rattle.std.proofs.lemmas.Bool.Decides.{nat_tests}
-use Rattle.std.proofs.lemmas.List.{append_cancel_left}
 use Rattle.std.specs.List.{AllByRecursion}
 use Rattle.httparse.specs.Grammar.{ResponseHead, print_response, print_chunk_line, status_code, ReadsResponse, NeverHasResponse}
 use Rattle.httparse.proofs.GrammarLemmas.{response_unique}

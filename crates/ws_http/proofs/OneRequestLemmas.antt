@@ -1,7 +1,6 @@
 -- The bytes of a request have one verdict.
-use Rattle.std.proofs.Common.{◌≡◌, ℕ, ◌+◌, ◌≤◌, Bool, true, false, List, [], ◌++◌, length, take, drop, refl, sym, ap, ◌∙◌, subst, append-nil, Option, Some, None, inl, inr}
+use Rattle.std.proofs.Common.{◌≡◌, ℕ, ◌+◌, Bool, true, false, List, [], length, take, drop, refl, sym, ap, ◌∙◌, subst, append-nil, Option, Some, None, inl, inr}
 use Rattle.std.specs.Prelude.{◌⊎◌}
-use Rattle.std.proofs.lemmas.Bool.{false≢true}
 use Rattle.httparse.specs.Grammar.{RequestHead, print_request, print_chunk_line, ReadsRequest, HasNoRequest, MayBecomeRequest, NeverHasRequest, EndsInTarget}
 use Rattle.httparse.proofs.GrammarLemmas.{request_unique}
 use Rattle.ws_http.specs.declared.fed.BadWhy.TheVariants as why
@@ -15,7 +14,7 @@ use Rattle.ws_http.specs.declared.chunk.Next.{Next}
 use Rattle.ws_http.specs.declared.chunk.Next.TheVariants as next
 use Rattle.ws_http.specs.Fields.{request_framing, has_host, fields_of}
 use Rattle.ws_http.specs.Heads.{Judges}
-use Rattle.ws_http.specs.Chunks.{Chunk, Follows, LineIs, LineNext, chunk_data, print_chunks}
+use Rattle.ws_http.specs.Chunks.{Chunk, Follows, LineNext, chunk_data, print_chunks}
 use Rattle.ws_http.specs.Requests.{Verdict, whole, Ends, ChunkedVerdict, FramedVerdict, HeadVerdict, IsRequest}
 use Rattle.ws_http.proofs.UniqueLemmas.{line_one, next_one, chunk_line_is, chunk_next_is, IsShorter, IsSame, Compared, compare_chunks}
 

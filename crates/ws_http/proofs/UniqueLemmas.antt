@@ -1,12 +1,12 @@
 -- Bytes have one reading: one chunk line, one trailer section, one list of chunks.
-use Rattle.std.proofs.Common.{◌≡◌, ℕ, ◌+◌, ◌-◌, ◌<◌, ◌≤◌, Bool, true, false, cond, List, [], ◌∷◌, ◌++◌, length, take, drop, refl, sym, ap, ◌∙◌, subst, arith, append_assoc, append-nil, length-append, inl, inr}
-use Rattle.std.specs.Prelude.{◌==◌, ◌⊎◌, MatchBool, nat_lt}
+use Rattle.std.proofs.Common.{◌≡◌, ℕ, ◌+◌, ◌<◌, ◌≤◌, Bool, true, false, List, [], ◌∷◌, ◌++◌, length, take, drop, refl, sym, ap, ◌∙◌, subst, arith, append_assoc, append-nil, length-append, inl, inr}
+use Rattle.std.specs.Prelude.{◌==◌, ◌⊎◌, MatchBool}
 use Rattle.std.proofs.lemmas.Bool.Decides.{nat_tests}
 use Rattle.std.proofs.lemmas.List.{append_cancel_left}
 use Rattle.std.proofs.Math.Seq.{drop-append_seam, take-append_seam}
 use Rattle.std.specs.List.{AllByRecursion}
 use Rattle.httparse.specs.Ascii.{crlf_bytes}
-use Rattle.httparse.specs.Grammar.{ChunkLine, chunk_size, print_chunk_line, IsChunkLine, ReadsChunkLine, Field, LineEnd, print_section, ReadsSection}
+use Rattle.httparse.specs.Grammar.{ChunkLine, chunk_size, print_chunk_line, ReadsChunkLine, print_section, ReadsSection}
 use Rattle.httparse.proofs.ChunkLemmas.{chunk_line_unique}
 use Rattle.httparse.proofs.GrammarLemmas.{section_unique}
 use Rattle.ws_http.specs.declared.chunk.Line.{Line}
@@ -15,7 +15,7 @@ use Rattle.ws_http.specs.declared.chunk.Section.{Section}
 use Rattle.ws_http.specs.declared.chunk.Section.TheVariants as section
 use Rattle.ws_http.specs.declared.chunk.Next.{Next}
 use Rattle.ws_http.specs.declared.chunk.Next.TheVariants as next
-use Rattle.ws_http.specs.Chunks.{Chunk, IsChunk, After, LineIs, SectionIs, LineNext, TrailerNext, trailer_next, end_next, print_chunk, print_chunks, chunk_data}
+use Rattle.ws_http.specs.Chunks.{Chunk, IsChunk, LineIs, SectionIs, LineNext, TrailerNext, trailer_next, end_next, print_chunk, print_chunks, chunk_data}
 
 pub line_one : (rest : List ℕ) (l k : Line) → LineIs rest l → LineIs rest k → l ≡ k
 line_one rest line.Open line.Open x y = refl

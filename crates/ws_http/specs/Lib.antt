@@ -12,3 +12,4 @@ pub mod ResponseStages
 pub mod ResponseData
 pub mod ResponseHeadsEnd
 pub mod ReplyPieces
+pub mod ReadBack

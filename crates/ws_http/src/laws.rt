@@ -1,6 +1,7 @@
 // What holds of every list of pieces.
 ghost use Rattle.ws_http.specs.Pieces.{FinalStays, InAnyPieces, OneVerdict};
 ghost use Rattle.ws_http.specs.Responses.{FitOutcomes, ReplyStays};
+ghost use Rattle.ws_http.specs.ReadBack.{ReadsBack};
 ghost use Rattle.ws_http.specs.ReplyPieces.{FaultsAreGot, OneReply, ReplyInAnyPieces};
 
 /// A verdict that is final stays, whatever comes behind the bytes.
@@ -41,4 +42,9 @@ pub fn one_verdict()
 /// The bytes of a response have one verdict.
 pub fn one_reply()
     ensures { OneReply }
+{}
+
+/// What `write_request` wrote of parts that make a request reads back as these parts.
+pub fn written_request_reads_back()
+    ensures { ReadsBack }
 {}

@@ -8,3 +8,4 @@ pub mod Standing
 pub mod Changes
 pub mod Ordered
 pub mod Asking
+pub mod Literal

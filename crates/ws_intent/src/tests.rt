@@ -1,10 +1,14 @@
+ghost use Rattle.std.specs.Prelude.{◌≡◌, IfOk};
+
 use crate::{Due, Intents, Settle};
 use std::alloc::Global;
 use std::test::Fail;
 use ws_model::{Alg, Bytes, Held, Intent, Mode, NoMemory, Work};
 
 // A subscription to one topic, with the callback's last letter.
-fn intent(alloc: Global, n: u64, callback: &[u8]) -> Result<Intent, NoMemory> {
+fn intent(alloc: Global, n: u64, callback: &[u8]) -> Result<Intent, NoMemory>
+    ensures { IfOk result (λ i. i.n ≡ n) }
+{
     Ok(Intent {
         n,
         mode: Mode::On,

@@ -1,0 +1,7 @@
+pub mod Keyed
+pub mod Ordered
+pub mod Fetching
+pub mod Changes
+pub mod Asking
+pub mod Stores
+pub mod Literal

@@ -1,0 +1,4 @@
+pub mod ByTopic
+pub mod Rows
+pub mod Stored
+pub mod Stands

@@ -1,0 +1,15 @@
+//! The table of topics: their latest and kept versions, and the fetches that are owed.
+#![tactic(auto)]
+
+mod by_topic;
+mod fetches;
+pub mod laws;
+mod rows;
+mod table;
+mod versions;
+
+pub use rows::OwedFetch;
+pub use table::Topics;
+
+#[cfg(test)]
+mod tests;

@@ -124,7 +124,6 @@ IsFit (polled.Ended o) = is_fit o ≡ true
 IsFit polled.NoMemory = ⊤
 
 module _ {L : Type 0} (content : L → Option LinkContent) (counts : L → LinkCounts) (send_gives : L → List ℕ → Step → L → Type 0) (take_gives : L → Step → List ℕ → L → Type 0) where
-
   -- the bytes that remained were to be sent
   pub record CallsSend (old new : Talk L) (s : Step) : Type 0 where
     pub sends : Sends (content old.link) (content new.link) (drop old.sent old.bytes) s

@@ -5,4 +5,3 @@ mod hear;
 mod polls;
 
 pub use polls::{Exchange, ExchangeUnmade, Polled};
-

@@ -171,7 +171,7 @@ module _ (old new : ReplyReading) (piece : List ℕ) (ended : Bool) (answer : Fe
       let now = both.0 in
       let at : new.stage ≡ stage.Bad reason = subst (λ (a : Fed). Tells a new.stage) is both.1 in
       let verdict : closed ended (length (came ++ piece)) now.verdict ≡ bad reason =
-          subst (λ (s : ReplyStage). Says new.need new.bytes new.content s (closed ended (length (came ++ piece)) now.verdict)) at now.says in
+      subst (λ (s : ReplyStage). Says new.need new.bytes new.content s (closed ended (length (came ++ piece)) now.verdict)) at now.says in
       record {
         got = subst (λ (n : Need). Got n (came ++ piece) ended (fault_outcome reason)) f.asked
             (record { verdict = now.verdict; is = now.is; makes = makes_fault _ reason verdict });

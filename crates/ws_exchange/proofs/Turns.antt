@@ -14,7 +14,7 @@ use Rattle.ws_exchange.specs.declared.polls.Stage.{Stage}
 use Rattle.ws_exchange.specs.declared.polls.Stage.TheVariants as stage
 use Rattle.ws_exchange.specs.Ends.{GoesOn, Ends}
 use Rattle.ws_exchange.specs.Hears.{CanHear, Hears}
-use Rattle.ws_exchange.specs.Polls.{Talk, Calls, Comes, IsSent, Reads, IsAt, IsTalk, ComesBy, IsFit, Leaves, is_over, stage_after, polled_after}
+use Rattle.ws_exchange.specs.Polls.{Talk, Calls, Comes, IsSent, Reads, IsAt, IsTalk, ComesBy, IsFit, is_over, stage_after, polled_after}
 use Rattle.ws_exchange.proofs.Told.{told_so, sent_more, sent_at_take, sent_at_end, given_at_send, given_more, given_at_end}
 use Rattle.ws_exchange.proofs.Heard.{goes_on}
 
@@ -29,7 +29,7 @@ pub reads_goes : (need : Need) (r : ReplyReading) (told : Option LinkContent) �
 reads_goes need r told reads =
     let going = subst (λ (n : Need). GoesOn n reads.came) reads.asked (goes_on r reads.came reads.stands reads.open_yet) in
     told_so (λ (c : LinkContent). c.given ≡ reads.came) (λ (c : LinkContent). GoesOn need c.given) told
-        (λ (c : LinkContent) (p : c.given ≡ reads.came). subst (GoesOn need) (sym p) going) reads.given
+    (λ (c : LinkContent) (p : c.given ≡ reads.came). subst (GoesOn need) (sym p) going) reads.given
 
 -- nothing is asked of an exchange that is over
 over_at : (need : Need) (told : Option LinkContent) (s : Stage) → is_over s ≡ true → IsAt need told s
@@ -74,13 +74,13 @@ given_goes : (need : Need) (bytes : List ℕ) (told : Option LinkContent) → If
     → IfSome told (λ (c : LinkContent). GoesOn need c.given)
 given_goes need bytes told given going =
     told_so (λ (c : LinkContent). c.given ≡ bytes) (λ (c : LinkContent). GoesOn need c.given) told
-        (λ (c : LinkContent) (p : c.given ≡ bytes). subst (GoesOn need) (sym p) going) given
+    (λ (c : LinkContent) (p : c.given ≡ bytes). subst (GoesOn need) (sym p) going) given
 
 given_ends : (need : Need) (bytes : List ℕ) (ended : Bool) (o : _) (told : Option LinkContent) → IfSome told (λ (c : LinkContent). c.given ≡ bytes)
     → Ends need bytes ended o → IfSome told (λ (c : LinkContent). Ends need c.given ended o)
 given_ends need bytes ended o told given ends =
     told_so (λ (c : LinkContent). c.given ≡ bytes) (λ (c : LinkContent). Ends need c.given ended o) told
-        (λ (c : LinkContent) (p : c.given ≡ bytes). subst (λ (l : List ℕ). Ends need l ended o) (sym p) ends) given
+    (λ (c : LinkContent) (p : c.given ≡ bytes). subst (λ (l : List ℕ). Ends need l ended o) (sym p) ends) given
 
 comes_took : (need : Need) (bytes : List ℕ) (n : ℕ) (h : Heard) (told : Option LinkContent)
     → IfSome told (λ (c : LinkContent). c.given ≡ bytes) → Hears need bytes false h → ComesBy need told (step.Took n) (polled_after h)
@@ -99,11 +99,6 @@ heard_fit need bytes ended (heard.More next) hears = tt
 heard_fit need bytes ended (heard.Ended o) hears = hears.fit
 heard_fit need bytes ended heard.NoMemory hears = tt
 
-pub heard_leaves : (h : Heard) → Leaves (polled_after h) (stage_after h)
-heard_leaves (heard.More next) = refl
-heard_leaves (heard.Ended o) = refl
-heard_leaves heard.NoMemory = refl
-
 -- what is heard by a link that gave a piece
 module _ (need : Need) (r : ReplyReading) (piece : List ℕ) (h : Heard) (old new : Option LinkContent) (reads : Reads need old r)
     (is : new ≡ after_take piece old) (hears : (came : List ℕ) → Stands r came false → Hears r.need (came ++ piece) false h) where
@@ -116,7 +111,7 @@ module _ (need : Need) (r : ReplyReading) (piece : List ℕ) (h : Heard) (old ne
   pub took_comes : (n : ℕ) → ComesBy need new (step.Took n) (polled_after h)
   took_comes n =
       comes_took need (reads.came ++ piece) n h new given
-          (subst (λ (m : Need). Hears m (reads.came ++ piece) false h) reads.asked (hears reads.came reads.stands))
+      (subst (λ (m : Need). Hears m (reads.came ++ piece) false h) reads.asked (hears reads.came reads.stands))
 
   pub took_fit : IsFit (polled_after h)
   took_fit = heard_fit r.need (reads.came ++ piece) false h (hears reads.came reads.stands)
@@ -150,6 +145,6 @@ pub comes_by_take : {L : Type 0} (content : L → Option LinkContent) (counts : 
 comes_by_take {L} content counts send_gives take_gives old new link h t into answer is polled all cause room takes gives comes =
     let after : Talk L = record old { link = link; stage = stage_after h } in
     let calls : Calls content counts send_gives take_gives old after t =
-        record { cause = cause; send = λ more. absurd (omega arith); take = λ _. record { into = into; room = room; takes = takes; gives = gives; sent = refl } } in
+    record { cause = cause; send = λ more. absurd (omega arith); take = λ _. record { into = into; room = room; takes = takes; gives = gives; sent = refl } } in
     subst (λ (n : Talk L). Comes content counts send_gives take_gives old n answer) (sym is)
-        (subst (λ (a : Polled). Comes content counts send_gives take_gives old after a) (sym polled) (t, calls, comes))
+    (subst (λ (a : Polled). Comes content counts send_gives take_gives old after a) (sym polled) (t, calls, comes))

@@ -113,9 +113,9 @@ pub record Keeps {L : Type 0} (old new : Talk L) : Type 0 where
 
 -- Behind each answer the exchange is open, over, or without memory.
 abbrev pub Leaves : Polled → Stage → Type 0
-Leaves polled.Pending s = is_open s ≡ true
+Leaves polled.Pending s = (is_open s ≡ true) × (is_over s ≡ false)
 Leaves (polled.Ended o) s = is_over s ≡ true
-Leaves polled.NoMemory s = is_starved s ≡ true
+Leaves polled.NoMemory s = (is_starved s ≡ true) × (is_over s ≡ false)
 
 -- the outcome is fit
 abbrev pub IsFit : Polled → Type 0
@@ -124,7 +124,6 @@ IsFit (polled.Ended o) = is_fit o ≡ true
 IsFit polled.NoMemory = ⊤
 
 module _ {L : Type 0} (content : L → Option LinkContent) (counts : L → LinkCounts) (send_gives : L → List ℕ → Step → L → Type 0) (take_gives : L → Step → List ℕ → L → Type 0) where
-
   -- the bytes that remained were to be sent
   pub record CallsSend (old new : Talk L) (s : Step) : Type 0 where
     pub sends : Sends (content old.link) (content new.link) (drop old.sent old.bytes) s

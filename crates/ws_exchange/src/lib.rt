@@ -6,3 +6,5 @@ mod polls;
 
 pub use polls::{Exchange, ExchangeUnmade, Polled};
 
+#[cfg(test)]
+mod tests;

@@ -15,7 +15,7 @@ invariant_of-self g c =
     let sends : told c.poll_send.new.self ≡ after_send (take c.in-Took.n (drop sent bytes)) (told c.self.inside.link) = rw rest at c.in-Took.ensures.sends in
     let fits : c.in-Took.n ≤ length (drop sent bytes) = rw rest at c.in-Took.ensures.count.1 in
     over_sent bytes sent c.in-Took.n c.self.inside.need c.self.inside.stage (told c.self.inside.link) (told c.poll_send.new.self)
-        over c.self.invariant.within fits sends c.self.invariant.front
+    over c.self.invariant.within fits sends c.self.invariant.front
 
 pub returns-in-Took-clause-sent : goal.returns-in-Took-clause-sent
 returns-in-Took-clause-sent g c =
@@ -25,5 +25,5 @@ returns-in-Took-clause-sent g c =
     let rest = c.split_at.ensures.back ∙ ap (drop sent) c.as_slice.ensures in
     let sends : told c.poll_send.new.self ≡ after_send (take c.in-Took.n (drop sent bytes)) (told c.self.inside.link) = rw rest at c.in-Took.ensures.sends in
     let now : IsSent (told c.poll_send.new.self) bytes (sent + c.in-Took.n) =
-        sent_more bytes sent c.in-Took.n (told c.self.inside.link) (told c.poll_send.new.self) sends c.self.invariant.front in
+    sent_more bytes sent c.in-Took.n (told c.self.inside.link) (told c.poll_send.new.self) sends c.self.invariant.front in
     subst (λ (e : Talk g.row.L.Denot). IsSent (told e.link) e.bytes e.sent) (sym c.settle.ensures.kept) now

@@ -14,7 +14,7 @@ use Rattle.ws_exchange.specs.declared.polls.Stage.{Stage}
 use Rattle.ws_exchange.specs.declared.polls.Stage.TheVariants as stage
 use Rattle.ws_exchange.specs.Ends.{GoesOn, Ends}
 use Rattle.ws_exchange.specs.Hears.{CanHear, Hears}
-use Rattle.ws_exchange.specs.Polls.{Talk, Calls, Comes, IsSent, Reads, IsAt, IsTalk, ComesBy, IsFit, Leaves, is_over, stage_after, polled_after}
+use Rattle.ws_exchange.specs.Polls.{Talk, Calls, Comes, IsSent, Reads, IsAt, IsTalk, ComesBy, IsFit, is_over, stage_after, polled_after}
 use Rattle.ws_exchange.proofs.Told.{told_so, sent_more, sent_at_take, sent_at_end, given_at_send, given_more, given_at_end}
 use Rattle.ws_exchange.proofs.Heard.{goes_on}
 
@@ -98,11 +98,6 @@ pub heard_fit : (need : Need) (bytes : List ℕ) (ended : Bool) (h : Heard) → 
 heard_fit need bytes ended (heard.More next) hears = tt
 heard_fit need bytes ended (heard.Ended o) hears = hears.fit
 heard_fit need bytes ended heard.NoMemory hears = tt
-
-pub heard_leaves : (h : Heard) → Leaves (polled_after h) (stage_after h)
-heard_leaves (heard.More next) = refl
-heard_leaves (heard.Ended o) = refl
-heard_leaves heard.NoMemory = refl
 
 -- what is heard by a link that gave a piece
 module _ (need : Need) (r : ReplyReading) (piece : List ℕ) (h : Heard) (old new : Option LinkContent) (reads : Reads need old r)

@@ -113,9 +113,9 @@ pub record Keeps {L : Type 0} (old new : Talk L) : Type 0 where
 
 -- Behind each answer the exchange is open, over, or without memory.
 abbrev pub Leaves : Polled → Stage → Type 0
-Leaves polled.Pending s = is_open s ≡ true
+Leaves polled.Pending s = (is_open s ≡ true) × (is_over s ≡ false)
 Leaves (polled.Ended o) s = is_over s ≡ true
-Leaves polled.NoMemory s = is_starved s ≡ true
+Leaves polled.NoMemory s = (is_starved s ≡ true) × (is_over s ≡ false)
 
 -- the outcome is fit
 abbrev pub IsFit : Polled → Type 0

@@ -5,3 +5,6 @@ mod hear;
 mod polls;
 
 pub use polls::{Exchange, ExchangeUnmade, Polled};
+
+#[cfg(test)]
+mod tests;

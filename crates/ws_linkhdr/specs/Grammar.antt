@@ -143,3 +143,7 @@ pub record LinkField (bytes : List ℕ) (items : List LinkItem) : Type 0 where
   pub are_others : AreMarked 44 IsLink others rest
   pub whole : bytes ≡ before ++ element ++ rest ++ after
   pub said : items ≡ present (first ∷ others)
+
+-- bytes are a field in one way only
+abbrev pub OneReading : Type 0
+OneReading = (field : List ℕ) (items others : List LinkItem) → LinkField field items → LinkField field others → items ≡ others

@@ -3,6 +3,7 @@
 
 mod characters;
 mod item;
+pub mod laws;
 mod read;
 mod state;
 #[cfg(test)]

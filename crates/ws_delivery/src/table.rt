@@ -1,5 +1,5 @@
 // The table of open pairs.
-ghost use Rattle.std.specs.Prelude.{◌≡◌, ◌+◌, ◌<◌, ◌^◌, ℕ, [], None, Some, cond, ◌==◌, ◌&&◌, IsSome, IfSome, IfOk, OnOk, OnErr, IsSomeAnd, length, if◌then◌else◌};
+ghost use Rattle.std.specs.Prelude.{◌≡◌, ◌+◌, ◌<◌, ◌^◌, ℕ, [], None, Some, cond, ◌==◌, ◌&&◌, IsSome, IfSome, IfOk, OnOk, OnErr, IsSomeAnd, MatchOption, length, if◌then◌else◌};
 ghost use Rattle.std.specs.Option.{option_map};
 ghost use Rattle.std.specs.Map.{keys_of};
 ghost use Rattle.std.specs.List.Sorted.{IsStrictlySortedBy};
@@ -53,6 +53,16 @@ impl Deliveries {
     {
         match self.pairs.get(ver, lease) {
             Some(pair) => Some(pair.fate(t)),
+            None => None,
+        }
+    }
+
+    /// The end of a lease, as its open pairs have it, where it has one.
+    pub fn end_of(&self, lease: u64) -> Option<u64>
+        ensures { MatchOption result ((v : ℕ) → pair_at v lease self.now ≡ None) (λ exp. (v : ℕ) → IfSome (pair_at v lease self.now) (λ p. p.exp ≡ exp)) }
+    {
+        match self.pairs.first_of(lease) {
+            Some(first) => Some(first.exp),
             None => None,
         }
     }

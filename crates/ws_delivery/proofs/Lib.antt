@@ -5,3 +5,4 @@ pub mod Standing
 pub mod Agreeing
 pub mod Carrying
 pub mod Counting
+pub mod Owing

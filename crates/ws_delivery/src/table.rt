@@ -1,10 +1,14 @@
 // The table of open pairs.
-ghost use Rattle.std.specs.Prelude.{◌≡◌, ◌+◌, ◌<◌, ◌^◌, ℕ, [], None, Some, cond, ◌==◌, ◌&&◌, IsSome, IfSome, IfOk, OnOk, OnErr, IsSomeAnd, MatchOption, length, if◌then◌else◌};
+ghost use Rattle.std.specs.Prelude.{◌≡◌, ◌+◌, ◌<◌, ◌≤◌, ◌^◌, ℕ, [], None, Some, cond, ◌==◌, ◌&&◌, IsSome, IfSome, IfOk, OnOk, OnErr, IsSomeAnd, List, MatchOption, length, if◌then◌else◌};
 ghost use Rattle.std.specs.Option.{option_map};
 ghost use Rattle.std.specs.Map.{keys_of};
 ghost use Rattle.std.specs.List.Sorted.{IsStrictlySortedBy};
 ghost use Rattle.ws_delivery.specs.Table.{carried, pair_order, pair_at, is_here, owed_at, fresh, after_miss, fate_after_miss, fate_at, number_of, number_owed};
+ghost use Rattle.ws_model.specs.declared.event.Event.{Event};
+ghost use Rattle.ws_model.specs.Legal.{Legal};
+ghost use Rattle.ws_model.specs.Pairs.{owed};
 ghost use Rattle.ws_delivery.specs.NextDue.{IsNextDue};
+ghost use Rattle.ws_delivery.specs.Stands.{StandsFor};
 
 use crate::ends::{self, Ends};
 use crate::open_pairs::OpenPairs;
@@ -181,7 +185,8 @@ impl Deliveries {
     /// How many pairs are owed at `t`. It goes over the leases that have ended by then and whose pairs
     /// aren't closed.
     pub fn owed(&self, t: u64) -> u64
-        ensures { result ≡ number_owed t self.now }
+        ensures number { result ≡ number_owed t self.now }
+        ensures stands { (h : List Event) (since : ℕ) → Legal h → StandsFor h since self.now → since ≤ t → result ≡ length (owed h t) }
     {
         ends::number_after(&self.ends, self.pairs.len(), t)
     }

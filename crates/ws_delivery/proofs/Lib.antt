@@ -4,3 +4,5 @@ pub mod FirstDue
 pub mod Standing
 pub mod Agreeing
 pub mod Carrying
+pub mod Counting
+pub mod Owing

@@ -45,13 +45,13 @@ cause_expired (Some e) x t u n k = one (nat_lt e.0 x) n
     one true n = absurd (false≢true n)
     one false n = expired_by x u k
 
-fate_expired : (h : List Event) (p : Pair) (t u : ℕ) → is_owed (fate h p t) ≡ true → nat_lt u (expiry p.lease) ≡ false → fate h p u ≡ Ended Expired
+pub fate_expired : (h : List Event) (p : Pair) (t u : ℕ) → is_owed (fate h p t) ≡ true → nat_lt u (expiry p.lease) ≡ false → fate h p u ≡ Ended Expired
 fate_expired h p t u owed k =
     let parts = and_parts (not (has (is_push_of is_done p) h) && not (nat_le 8 (misses h p))) (is_none (lease_end h p.lease t)) (sym (is_owed_parts _ _ (lease_end h p.lease t) _) ∙ owed) in
     let first = and_parts (not (has (is_push_of is_done p) h)) (not (nat_le 8 (misses h p))) parts.0 in
     rw (not-true _ first.0, cause_expired (first_end h p.lease) (expiry p.lease) t u parts.1 k, not-true _ first.1)
 
-fate_kept : (h : List Event) (p : Pair) (t u : ℕ) → t ≤ u → is_owed (fate h p t) ≡ false → fate h p u ≡ fate h p t
+pub fate_kept : (h : List Event) (p : Pair) (t u : ℕ) → t ≤ u → is_owed (fate h p t) ≡ false → fate h p u ≡ fate h p t
 fate_kept h p t u le un =
     fate_stays (has (is_push_of is_done p) h) (misses h p) (lease_end h p.lease t) (lease_end h p.lease u) (next h p) (next h p)
     (λ k. end_later (first_end h p.lease) (expiry p.lease) t u le k) un

@@ -290,7 +290,7 @@ reborn_in t h ps (l ∷ ls) =
     ∙ sym (map-map (owed_push h) (λ w. new_push t w.version l) (filter (λ p. same_pair l.intent p.lease.intent) ps))
     ∙ ap (map (λ w. new_push t w.version l)) (sym (filter-map (owed_push h) (λ w. same_pair l.intent w.lease.intent) ps))
 
-births_in : (w : What) (t : ℕ) (o : Option Intent) (h : List Event) → map (untried_owing t) (births t w o (live h t) (owed h t)) ≡ new_pushes t w o (view h t)
+pub births_in : (w : What) (t : ℕ) (o : Option Intent) (h : List Event) → map (untried_owing t) (births t w o (live h t) (owed h t)) ≡ new_pushes t w o (view h t)
 births_in (Fetched v) t o h = map-map (pair t v) (untried_owing t) _
 births_in (Confirmed n sent) t o h = reborn_in t h (owed h t) (lease_by sent o)
 births_in _ t o h = refl

@@ -1,0 +1,11 @@
+//! What became of each pair of a version and a lease, and how many ended so.
+#![tactic(auto)]
+
+pub mod laws;
+mod table;
+#[cfg(test)]
+mod tests;
+mod totals;
+
+pub use table::Fates;
+pub use totals::{Standing, Totals};

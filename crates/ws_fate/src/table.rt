@@ -1,0 +1,100 @@
+// The table of pairs with what became of them.
+ghost use Rattle.std.specs.Prelude.{◌≡◌, ◌∷◌, ◌≤◌, [], ℕ, None, Some, cond, OnOk, OnErr};
+ghost use Rattle.ws_model.specs.declared.event.Event.{Event};
+ghost use Rattle.ws_model.specs.declared.event.What.TheVariants.{Tally as TallyOf};
+ghost use Rattle.ws_fate.specs.declared.totals.Standing.TheVariants.{Open};
+ghost use Rattle.ws_fate.specs.Rows.{is_here, standing_at};
+ghost use Rattle.ws_fate.specs.Stands.{StandsFor};
+ghost use Rattle.ws_fate.specs.Totals.{none, of_tally, with_one};
+
+use crate::{Standing, Totals};
+use std::alloc::Global;
+use std::collections::BTreeMap;
+use std::marker::Model;
+use ws_model::{NoMemory, Tally};
+
+/// The pairs of a version and a lease with what became of them, and how many ended in each way, those
+/// included that a compaction forgot. Contracts see the pairs as a list by lease and version.
+#[derive(Drop)]
+pub struct Fates {
+    by_pair: BTreeMap<(u64, u64), Standing>,
+    totals: Totals,
+}
+
+impl Model for Fates {
+    ghost use Rattle.ws_fate.specs.Rows.{Rows};
+
+    ghost Value = { Rows };
+
+    ghost view = { λ s. record { pairs = s.by_pair.entries; totals = s.totals } };
+}
+
+impl Fates {
+    /// No pair. It takes no memory.
+    pub fn empty(alloc: Global) -> Fates
+        ensures empty { result ≡ record { pairs = []; totals = none } }
+        ensures stands { StandsFor [] 0 result }
+    {
+        Fates {
+            by_pair: BTreeMap::new(alloc),
+            totals: Totals::none(),
+        }
+    }
+
+    /// No pair, beside those that a compaction forgot. It takes no memory.
+    pub fn of_tally(alloc: Global, tally: &Tally) -> Fates
+        ensures empty { result ≡ record { pairs = []; totals = of_tally tally.entry.now } }
+        ensures stands { (e : Event) (t : ℕ) → e.what ≡ TallyOf tally.entry.now → e.t ≤ t → StandsFor (e ∷ []) t result }
+    {
+        Fates {
+            by_pair: BTreeMap::new(alloc),
+            totals: Totals::of_tally(tally),
+        }
+    }
+
+    /// What became of a pair, where the table has it. It takes no memory.
+    pub fn get(&self, ver: u64, lease: u64) -> Option<Standing>
+        ensures { result ≡ standing_at ver lease self.now }
+    {
+        self.by_pair.get(&(lease, ver)).copied()
+    }
+
+    /// How many pairs ended in each way. It takes no memory.
+    pub fn totals(&self) -> Totals
+        ensures { result ≡ self.now.totals }
+    {
+        self.totals
+    }
+
+    /// Adds a pair, which is open. At an error the table is as before.
+    pub fn born(&mut self, ver: u64, lease: u64) -> Result<(), NoMemory>
+        requires new { standing_at ver lease self.old ≡ None }
+        ensures look { OnOk result ((v n : ℕ) → standing_at v n self.new ≡ cond (is_here ver lease v n) (Some Open) (standing_at v n self.old)) }
+        ensures totals { self.new.totals ≡ self.old.totals }
+        ensures err { OnErr result (self.new ≡ self.old) }
+    {
+        self.by_pair.insert((lease, ver), Standing::Open)?;
+        Ok(())
+    }
+
+    /// Takes an open pair out, as if it hadn't been born. It takes no memory.
+    pub fn unborn(&mut self, ver: u64, lease: u64)
+        requires is_open { standing_at ver lease self.old ≡ Some Open }
+        ensures look { (v n : ℕ) → standing_at v n self.new ≡ cond (is_here ver lease v n) None (standing_at v n self.old) }
+        ensures totals { self.new.totals ≡ self.old.totals }
+    {
+        let _ = self.by_pair.remove(&(lease, ver));
+    }
+
+    /// Says what became of an open pair, and counts it. It takes no memory.
+    pub fn end(&mut self, ver: u64, lease: u64, how: Standing)
+        requires is_open { standing_at ver lease self.old ≡ Some Open }
+        ensures look { (v n : ℕ) → standing_at v n self.new ≡ cond (is_here ver lease v n) (Some how) (standing_at v n self.old) }
+        ensures totals { self.new.totals ≡ with_one how self.old.totals }
+    {
+        match self.by_pair.insert((lease, ver), how) {
+            Ok(_) => self.totals.add(how),
+            Err(_) => unreachable!(),
+        }
+    }
+}

@@ -6,3 +6,6 @@ mod Moments
 mod Readings
 mod Records
 mod Standing
+mod Texts
+mod Heads
+mod Once

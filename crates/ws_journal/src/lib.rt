@@ -4,6 +4,7 @@
 mod append;
 mod gate;
 mod journal;
+pub mod laws;
 mod record;
 mod store;
 #[cfg(test)]

@@ -9,3 +9,8 @@ mod Standing
 mod Texts
 mod Heads
 mod Once
+mod HeadParts
+mod Looking
+mod Starts
+mod Found
+mod Results

@@ -3,3 +3,5 @@ pub mod Kept
 pub mod Stands
 pub mod Text
 pub mod OneReading
+pub mod Device
+pub mod Looks

@@ -3,12 +3,14 @@
 
 mod append;
 mod gate;
+mod head;
 mod journal;
 pub mod laws;
 mod record;
+mod scan;
 mod store;
 #[cfg(test)]
 mod tests;
 
 pub use journal::Journal;
-pub use store::{AppendFault, Edition, Store};
+pub use store::{AppendFault, Batch, Edition, OpenFault, ReadBack, Store};

@@ -2,7 +2,10 @@ mod Appending
 mod Files
 mod Gates
 mod Halves
+mod Making
 mod Moments
 mod Readings
 mod Records
+mod Spare
 mod Standing
+mod Writing

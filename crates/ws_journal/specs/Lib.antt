@@ -2,3 +2,4 @@ pub mod Image
 pub mod Kept
 pub mod Stands
 pub mod Text
+pub mod Made

@@ -2,8 +2,11 @@
 #![tactic(auto)]
 
 mod append;
+mod clear;
+mod fresh;
 mod gate;
 mod journal;
+mod make;
 mod record;
 mod store;
 #[cfg(test)]

@@ -2,10 +2,13 @@
 #![tactic(auto)]
 
 mod append;
+mod clear;
+mod fresh;
 mod gate;
 mod head;
 mod journal;
 pub mod laws;
+mod make;
 mod record;
 mod scan;
 mod store;

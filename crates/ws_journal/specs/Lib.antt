@@ -4,5 +4,6 @@ pub mod Kept
 pub mod Looks
 pub mod Made
 pub mod OneReading
+pub mod Recovered
 pub mod Stands
 pub mod Text

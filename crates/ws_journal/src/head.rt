@@ -11,7 +11,7 @@ use crate::store::Edition;
 use ws_disk::{Disk, DiskFailed};
 
 /// The least size of a device that is used, in bytes.
-const LEAST_SIZE: usize = 18;
+pub(crate) const LEAST_SIZE: usize = 18;
 
 /// What a device is, by its head.
 #[derive(Clone, Copy)]

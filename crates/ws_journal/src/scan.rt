@@ -14,7 +14,7 @@ use ws_model::{Event, Events, NoMemory};
 use ws_record::read_batch;
 
 /// The place of the first record's gate.
-const FIRST_GATE: u64 = 17;
+pub(crate) const FIRST_GATE: u64 = 17;
 
 /// A gate with this value is open.
 const OPEN: u8 = 1;

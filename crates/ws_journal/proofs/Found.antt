@@ -77,11 +77,10 @@ altered_there Second at next digest found payload file stands within is differs 
 pub checked : (edition : Edition) (at next : ℕ) (kept : Option (List ℕ)) (payload file : List ℕ) (fault : OpenFault) → StandsOpen edition (length payload) kept (payload ++ drop next file) (drop at file) → next < length file
     → Checks at kept payload (Err fault) → FindsRecord edition at file (Err fault)
 checked edition at next kept payload file (Opening.Damaged place) stands within checks = (checks.0, inr (no_batch_at edition at next kept payload file stands within checks.1 checks.2))
-checked edition at next kept payload file (Opening.Altered place digest found) stands within checks =
-    (
-      checks.0,
-      altered_there edition at next digest found payload file (subst (λ (k : Option (List ℕ)). StandsOpen edition (length payload) k (payload ++ drop next file) (drop at file)) checks.1 stands) within checks.2 checks.3,
-    )
+checked edition at next kept payload file (Opening.Altered place digest found) stands within checks = (
+  checks.0,
+  altered_there edition at next digest found payload file (subst (λ (k : Option (List ℕ)). StandsOpen edition (length payload) k (payload ++ drop next file) (drop at file)) checks.1 stands) within checks.2 checks.3,
+)
 checked edition at next kept payload file (Opening.Foreign place) stands within checks = absurd checks
 checked edition at next kept payload file Opening.Disk stands within checks = tt
 checked edition at next kept payload file Opening.NoMemory stands within checks = tt

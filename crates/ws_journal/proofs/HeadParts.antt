@@ -22,7 +22,7 @@ parts_more gate name generation bytes file is parts =
       rest = parts.rest ++ more;
       some = let some = parts.some in omega (arith, length-append parts.rest more);
       is = sym (take-append-drop 18 file) ∙ ap (λ (l : List ℕ). l ++ more) (is ∙ parts.is)
-      ∙ ap (λ (l : List ℕ). gate ∷ l) (append_assoc name (number ++ parts.rest) more ∙ ap (λ (l : List ℕ). name ++ l) (append_assoc number parts.rest more));
+          ∙ ap (λ (l : List ℕ). gate ∷ l) (append_assoc name (number ++ parts.rest) more ∙ ap (λ (l : List ℕ). name ++ l) (append_assoc number parts.rest more));
       eight = parts.eight;
       fits = parts.fits;
     }

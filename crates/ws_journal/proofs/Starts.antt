@@ -62,8 +62,8 @@ module _ (gate : ℕ) (rest bytes left : List ℕ) (is : take 37 left ≡ bytes)
         let number = number_text w32 len in
         let text = kept_text kept in record {
           is = whole ∙ (λ i. is_open i ∷ (begins.parts i ++ more))
-          ∙ ap (λ (l : List ℕ). 1 ∷ ((number ++ l) ++ more)) digest
-          ∙ ap (λ (l : List ℕ). 1 ∷ l) (append_assoc number (text ++ after) more ∙ ap (λ (l : List ℕ). number ++ l) (append_assoc text after more));
+              ∙ ap (λ (l : List ℕ). 1 ∷ ((number ++ l) ++ more)) digest
+              ∙ ap (λ (l : List ℕ). 1 ∷ l) (append_assoc number (text ++ after) more ∙ ap (λ (l : List ℕ). number ++ l) (append_assoc text after more));
           short = begins.fit;
           digest = long;
         }

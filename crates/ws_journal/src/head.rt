@@ -68,7 +68,10 @@ fn judge_head(bytes: &[u8]) -> Head
     match (gate, edition_of(name)) {
         (0, _) => Head::Unused,
         (1, Some(edition)) if is_generation(edition, generation) => {
-            Head::Used { edition, generation }
+            Head::Used {
+                edition,
+                generation,
+            }
         }
         (1, Some(_)) => Head::Foreign { at: 9 },
         (1, None) => Head::Foreign { at: 1 },

@@ -214,11 +214,13 @@ fn read_record<D: Disk>(
     ensures reads { OnlyReads D.honest D.seen D.moment D.images D.faults disk.old disk.new }
     ensures cause { result ≡ Err OpenFault.Disk → Rose (D.faults disk.old) (D.faults disk.new) }
 {
-    let Some(Whole {
-        kept,
-        payload,
-        next,
-    }) = read_whole(alloc, disk, edition, size, at)?
+    let Some(
+        Whole {
+            kept,
+            payload,
+            next,
+        },
+    ) = read_whole(alloc, disk, edition, size, at)?
     else {
         return Ok(None);
     };

@@ -12,6 +12,8 @@ pub mod laws;
 mod make;
 mod record;
 mod recover;
+#[cfg(test)]
+mod recover_tests;
 mod scan;
 mod store;
 #[cfg(test)]

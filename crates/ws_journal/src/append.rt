@@ -14,11 +14,11 @@ use crate::store::{AppendFault, Side, Store};
 use ws_disk::{Disk, DiskFailed};
 
 /// What a record of edition 2 has beside its payload: its gate, its length and its digest.
-const RECORD_BYTES: u64 = 37;
+pub(crate) const RECORD_BYTES: u64 = 37;
 
-/// How far an append that failed had come.
+/// How far a call that failed had come.
 #[derive(Clone, Copy)]
-enum Stop {
+pub(crate) enum Stop {
     /// The gate's write wasn't begun.
     Before,
     /// The gate's write was begun.

@@ -2,12 +2,22 @@
 #![tactic(auto)]
 
 mod append;
+mod choose;
+mod clear;
+mod fresh;
 mod gate;
+mod head;
 mod journal;
+pub mod laws;
+mod make;
 mod record;
+mod recover;
+#[cfg(test)]
+mod recover_tests;
+mod scan;
 mod store;
 #[cfg(test)]
 mod tests;
 
 pub use journal::Journal;
-pub use store::{AppendFault, Edition, Store};
+pub use store::{AppendFault, Batch, Edition, OpenFault, ReadBack, Store};

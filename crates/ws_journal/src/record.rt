@@ -24,7 +24,11 @@ fn record_head(payload: &[u8]) -> [u8; 36]
 }
 
 /// Writes the head and the payload of a record.
-fn write_payload<D: Disk>(disk: &mut D, at: u64, payload: &[u8]) -> Result<(), DiskFailed>
+pub(crate) fn write_payload<D: Disk>(
+    disk: &mut D,
+    at: u64,
+    payload: &[u8],
+) -> Result<(), DiskFailed>
     requires place { D.honest disk.old → at ≤ length (D.seen disk.old) }
     requires short { length payload.now < 2 ^ 32 }
     requires room { at < 2 ^ 63 }

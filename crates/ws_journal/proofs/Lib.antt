@@ -6,6 +6,7 @@ mod Making
 mod Moments
 mod Readings
 mod Records
+mod Replacing
 mod Spare
 mod Standing
 mod Writing

@@ -3,3 +3,4 @@ pub mod Kept
 pub mod Stands
 pub mod Text
 pub mod Made
+pub mod Replaced

@@ -9,6 +9,8 @@ pub(crate) enum Doubt {
     Nothing,
     /// The gate of the last batch: its write was begun, and not confirmed.
     Batch,
+    /// The gate of the other device, which is of the next generation.
+    Device,
 }
 
 /// A journal of batches on two devices.
@@ -22,6 +24,7 @@ pub struct Journal {
     /// What the tail may come to, in bytes.
     pub(crate) limit: u64,
     pub(crate) doubt: Doubt,
+    ghost numbered: { generation < 2 ^ 63 },
     ghost limited: { limit ≤ 2 ^ 30 },
     ghost begun: { 17 < tail },
 }

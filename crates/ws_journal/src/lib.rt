@@ -8,6 +8,8 @@ mod gate;
 mod journal;
 mod make;
 mod record;
+mod replace;
+mod settle;
 mod store;
 #[cfg(test)]
 mod tests;

@@ -194,7 +194,7 @@ module _ {D : Type 0} (moment : D → ℕ) (images : D → ℕ → List ℕ → 
       (λ file second shut made. older_or_newer journal payloads newer file second stands.generation small stands.batches batches shut made) run)
 
   -- once it was made, and counts
-  made_next : (tail : ℕ) → tail ≡ 18 + length (records Second newer) → counting next new ≡ other side new → other next new ≡ counting side new → IsNext next tail journal after
+  made_next : (tail : ℕ) → tail ≡ 18 + length (records Second newer) → counting next new ≡ other side new → other next new ≡ counting side new → IsNext next (journal.generation + 1) tail journal after
       → Each (Present (other side new)) (IsMade (journal.generation + 1) newer) → Stands moment images after new newer None
   made_next tail ends here there switched made =
       let up = journal.generation + 1 in
@@ -209,11 +209,11 @@ module _ {D : Type 0} (moment : D → ℕ) (images : D → ℕ → List ℕ → 
         below = λ image now. counts_below journal.edition journal.generation payloads image stands.generation stands.batches (old_shut image now);
         gate = inr (λ image now. omega (arith, shut_within (front journal.edition journal.generation payloads) image (old_shut image now)));
       } in
-      let by_generation = subst (λ (g : ℕ). Counts after (front Second g newer) None (Present (counting next new))) (sym switched.generation) counts in
+      let by_generation = subst (λ (g : ℕ). Counts after (front Second g newer) None (Present (counting next new))) (sym switched.numbered) counts in
       let by_edition = subst (λ (e : Edition). Counts after (front e after.generation newer) None (Present (counting next new))) (sym switched.edition) by_generation in
-      let rest = subst (λ (g : ℕ). IsSpare g (Present (other next new))) (sym switched.generation) spare in
+      let rest = subst (λ (g : ℕ). IsSpare g (Present (other next new))) (sym switched.numbered) spare in
       record {
-        generation = subst (λ (e : Edition). IsGeneration e after.generation) (sym switched.edition) (subst (λ (g : ℕ). IsGeneration Second g) (sym switched.generation) is_next);
+        generation = subst (λ (e : Edition). IsGeneration e after.generation) (sym switched.edition) (subst (λ (g : ℕ). IsGeneration Second g) (sym switched.numbered) is_next);
         batches = batches;
         doubted = tt;
         device = subst (λ (s : Side). Counts after (front after.edition after.generation newer) None (Present (counting s new))) (sym switched.counts) by_edition;
@@ -252,10 +252,10 @@ module _ {D : Type 0} (moment : D → ℕ) (images : D → ℕ → List ℕ → 
       }
 
   pub replaced : (tail : ℕ) → tail ≡ 18 + length (records Second newer) → counting next new ≡ other side new → other next new ≡ counting side new → (result : Result (Unit {0}) DiskFailed)
-      → OnOk result (IsNext next tail journal after) → OnOk result (Each (Present (other side new)) (IsMade (journal.generation + 1) newer))
+      → OnOk result (IsNext next (journal.generation + 1) tail journal after) → OnOk result (Each (Present (other side new)) (IsMade (journal.generation + 1) newer))
       → (IsErr result → ((after ≡ journal) × IsSpare journal.generation (Present (other side new))) ⊎ (KnowsDevice journal after × Each (Present (other side new)) (IsHalfMade (journal.generation + 1) newer)))
       → Replaced moment images journal after new payloads newer (is_ok result)
-  replaced tail ends here there (Ok done) switched made failed = (switched.edition, switched.generation, made_next tail ends here there switched made)
+  replaced tail ends here there (Ok done) switched made failed = (switched.edition, switched.numbered, made_next tail ends here there switched made)
   replaced tail ends here there (Err e) switched made failed =
       elim (failed refl) [
         | inl before ↦ inl (not_made before.0 before.1)

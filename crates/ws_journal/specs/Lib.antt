@@ -1,6 +1,9 @@
+pub mod Device
 pub mod Image
 pub mod Kept
+pub mod Looks
+pub mod Made
+pub mod OneReading
+pub mod Replaced
 pub mod Stands
 pub mod Text
-pub mod Made
-pub mod Replaced

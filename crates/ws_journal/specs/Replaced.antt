@@ -1,7 +1,9 @@
 -- What a replacement of a journal's batches leaves of its two devices (own).
-use Rattle.std.specs.Prelude.{◌≡◌, ◌⊎◌, ℕ, ◌<◌, ◌≤◌, ◌+◌, ◌-◌, ◌^◌, List, [], ◌∷◌, ◌++◌, length, Option, Some, None, All, Bool, true, false, Result, Ok, Err, IsErr}
+use Rattle.std.specs.Prelude.{map, ◌≡◌, ◌⊎◌, ℕ, ◌<◌, ◌≤◌, ◌+◌, ◌-◌, ◌^◌, List, [], ◌∷◌, ◌++◌, length, Option, Some, None, All, Bool, true, false, Result, Ok, Err, IsErr}
 use Rattle.std.specs.List.{sum_by}
 use Rattle.ws_record.specs.Text.{capped}
+use Rattle.ws_record.specs.Batch.{batch_text, IsBatch}
+use Rattle.ws_journal.specs.declared.store.Batch.{Batch}
 use Rattle.ws_journal.specs.declared.store.Edition.TheVariants.{Second}
 use Rattle.ws_journal.specs.declared.store.Side.{Side}
 use Rattle.ws_journal.specs.declared.store.Store.{Store}
@@ -78,11 +80,11 @@ abbrev pub ClosedDevice : {D : Type 0} → (D → ℕ) → (D → ℕ → List �
 ClosedDevice moment images journal store payloads newer (Ok done) = Stands moment images journal store payloads None
 ClosedDevice moment images journal store payloads newer (Err e) = StandsBeside moment images journal store payloads newer
 
--- the journal of the next generation, whose device this one is
-pub record IsNext (side : Side) (tail : ℕ) (old new : Journal) : Type 0 where
+-- the journal of this generation, whose device this one is
+pub record IsNext (side : Side) (generation tail : ℕ) (old new : Journal) : Type 0 where
   pub counts : new.side ≡ side
   pub edition : new.edition ≡ Second
-  pub generation : new.generation ≡ old.generation + 1
+  pub numbered : new.generation ≡ generation
   pub ends : new.tail ≡ tail
   pub limit : new.limit ≡ old.limit
   pub doubt : new.doubt ≡ old.doubt
@@ -129,9 +131,9 @@ ReplacesBeside moment images journal after old new payloads doubted newer done =
 abbrev pub records_len : List (List ℕ) → ℕ
 records_len payloads = sum_by (λ payload. length payload + 37) payloads
 
--- no generation is left
+-- No generation is left. A journal that stands is of no greater one than 2 ^ 63 - 1.
 abbrev pub IsLast : Journal → Type 0
-IsLast journal = journal.generation ≡ 2 ^ 63 - 1
+IsLast journal = 2 ^ 63 - 1 ≤ journal.generation
 
 -- a device with these batches would pass the limit
 abbrev pub PassesWith : Journal → List (List ℕ) → Type 0
@@ -142,6 +144,15 @@ pub record ReplaceFull (journal : Journal) (payloads : List (List ℕ)) (result 
   pub last : IsLast journal → result ≡ Err (Full (2 ^ 63 - 1) 1)
   pub past : (IsLast journal → ⊥) → PassesWith journal payloads → result ≡ Err (Full 18 (capped (records_len payloads)))
   pub only : (tail asked : ℕ) → result ≡ Err (Full tail asked) → IsLast journal ⊎ PassesWith journal payloads
+
+-- a batch as a record holds one
+pub record IsRecorded (batch : Batch) : Type 0 where
+  pub events : IsBatch batch.events
+  pub short : length (batch_text batch.events) < 2 ^ 32
+
+-- the texts of batches
+abbrev pub texts : List Batch → List (List ℕ)
+texts batches = map (λ batch. batch_text batch.events) batches
 
 -- An append beside a device in doubt: its gate is closed first, and then it is an append beside no doubt.
 pub record AppendsClosed {D : Type 0} (moment : D → ℕ) (images : D → ℕ → List ℕ → Type 0) (journal after : Journal) (old new : Store D) (payloads newer : List (List ℕ)) (payload : List ℕ) (result : Result (Unit {0}) AppendFault) : Type 0 where

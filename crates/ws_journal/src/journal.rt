@@ -24,7 +24,6 @@ pub struct Journal {
     /// What the tail may come to, in bytes.
     pub(crate) limit: u64,
     pub(crate) doubt: Doubt,
-    ghost numbered: { generation < 2 ^ 63 },
     ghost limited: { limit ≤ 2 ^ 30 },
     ghost begun: { 17 < tail },
 }

@@ -5,14 +5,19 @@ mod append;
 mod clear;
 mod fresh;
 mod gate;
+mod head;
 mod journal;
+pub mod laws;
 mod make;
 mod record;
 mod replace;
+mod scan;
 mod settle;
 mod store;
 #[cfg(test)]
 mod tests;
+mod upgrade;
 
 pub use journal::Journal;
-pub use store::{AppendFault, Edition, Store};
+pub use store::{AppendFault, Batch, Edition, OpenFault, ReadBack, Store};
+pub use upgrade::UpgradeFault;

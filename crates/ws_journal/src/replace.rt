@@ -17,13 +17,13 @@ use ws_disk::{Disk, DiskFailed};
 use ws_model::Bytes;
 
 /// The tail of a device without records.
-const EMPTY_TAIL: u64 = 18;
+pub(crate) const EMPTY_TAIL: u64 = 18;
 
 /// No device of edition 2 is of a greater generation.
 const LAST_GENERATION: u64 = (1 << 63) - 1;
 
 /// What the records of these batches come to, in bytes; 2^64 - 1 where it is more.
-fn records_len(batches: &[Bytes]) -> u64
+pub(crate) fn records_len(batches: &[Bytes]) -> u64
     ensures { result ≡ capped (records_len batches.now) }
 {
     let mut sum: u64 = 0;
@@ -38,35 +38,42 @@ impl Journal {
     ghost use Rattle.ws_journal.specs.Stands.{counting, other, Stands, SameJournal};
     ghost use Rattle.ws_journal.specs.Replaced.{StandsBeside, IsKept, IsNext, KnowsDevice, BesideCrash, CountingCrash, ReadsOlderOrNewer, ReadsLeft, Replaced, Replaces, ReplacesBeside, IsLast, PassesWith, ReplaceFull};
 
-    /// Makes the other device the next generation with these batches, and has it count from then on.
+    /// The generation behind this one. Only a disk that isn't honest can have given one that has none.
+    fn next_generation(&self) -> u64
+        ensures { self.now.generation < 2 ^ 63 - 1 → result ≡ self.now.generation + 1 }
+    {
+        self.generation.saturating_add(1)
+    }
+
+    /// Makes a device one of this generation with these batches, and has it count from then on.
     fn make_other<D: Disk>(
         &mut self,
         disk: &mut D,
         side: Side,
+        generation: u64,
         batches: &[Bytes],
         tail: u64,
     ) -> Result<(), DiskFailed>
-        requires next { self.old.generation < 2 ^ 63 - 1 }
         requires short { All (λ payload. length payload < 2 ^ 32) batches.now }
         requires room { length (records Second batches.now) < 2 ^ 61 }
         requires tail { 17 < tail }
         ensures any_moment { (older : ℕ) → D.honest disk.old → IsSpare older (D.images disk.old (D.moment disk.old))
-            → LeavesOnly D.moment D.images disk.old disk.new (IsBelowOrMade older (self.old.generation + 1) batches.now) }
+            → LeavesOnly D.moment D.images disk.old disk.new (IsBelowOrMade older generation batches.now) }
         ensures made { (older : ℕ) → D.honest disk.old → IsSpare older (D.images disk.old (D.moment disk.old))
-            → OnOk result (Each (D.images disk.new (D.moment disk.new)) (IsMade (self.old.generation + 1) batches.now)) }
-        ensures switched { OnOk result (IsNext side tail self.old self.new) }
+            → OnOk result (Each (D.images disk.new (D.moment disk.new)) (IsMade generation batches.now)) }
+        ensures switched { OnOk result (IsNext side generation tail self.old self.new) }
         ensures failed { (older : ℕ) → D.honest disk.old → IsSpare older (D.images disk.old (D.moment disk.old)) → IsErr result
             → ((self.new ≡ self.old) × IsSpare older (D.images disk.new (D.moment disk.new)))
-            ⊎ (KnowsDevice self.old self.new × Each (D.images disk.new (D.moment disk.new)) (IsHalfMade (self.old.generation + 1) batches.now)) }
+            ⊎ (KnowsDevice self.old self.new × Each (D.images disk.new (D.moment disk.new)) (IsHalfMade generation batches.now)) }
         ensures limit { self.new.limit ≡ self.old.limit }
         ensures honesty { D.honest disk.new ↔ D.honest disk.old }
         ensures cause { HasCause (D.faults disk.old) (D.faults disk.new) result }
     {
-        match make_device(disk, self.generation + 1, batches) {
+        match make_device(disk, generation, batches) {
             Ok(()) => {
                 self.side = side;
                 self.edition = Edition::Second;
-                self.generation += 1;
+                self.generation = generation;
                 self.tail = tail;
                 Ok(())
             }
@@ -85,38 +92,37 @@ impl Journal {
         batches: &[Bytes],
         tail: u64,
     ) -> Result<(), DiskFailed>
-        requires next { self.old.generation < 2 ^ 63 - 1 }
         requires batches { All IsPayload batches.now }
         requires room { length (records Second batches.now) < 2 ^ 61 }
         requires tail { tail ≡ 18 + length (records Second batches.now) }
-        ensures any_moment { (payloads : List (List ℕ)) → D.honest (other self.old.side store.old) → Stands D.moment D.images self.old store.old payloads None
+        ensures any_moment { (payloads : List (List ℕ)) → self.old.generation < 2 ^ 63 - 1 → D.honest (other self.old.side store.old) → Stands D.moment D.images self.old store.old payloads None
             → BesideCrash D.moment D.images self.old.side store.old store.new (ReadsOlderOrNewer self.old payloads batches.now) }
-        ensures replaced { (payloads : List (List ℕ)) → D.honest (other self.old.side store.old) → Stands D.moment D.images self.old store.old payloads None
+        ensures replaced { (payloads : List (List ℕ)) → self.old.generation < 2 ^ 63 - 1 → D.honest (other self.old.side store.old) → Stands D.moment D.images self.old store.old payloads None
             → Replaced D.moment D.images self.old self.new store.new payloads batches.now (is_ok result) }
         ensures limit { self.new.limit ≡ self.old.limit }
         ensures untouched { counting self.old.side store.new ≡ counting self.old.side store.old }
         ensures honesty { D.honest (other self.old.side store.new) ↔ D.honest (other self.old.side store.old) }
         ensures cause { HasCause (D.faults (other self.old.side store.old)) (D.faults (other self.old.side store.new)) result }
     {
+        let generation = self.next_generation();
         match self.side {
-            Side::A => self.make_other(&mut store.b, Side::B, batches, tail),
-            Side::B => self.make_other(&mut store.a, Side::A, batches, tail),
+            Side::A => self.make_other(&mut store.b, Side::B, generation, batches, tail),
+            Side::B => self.make_other(&mut store.a, Side::A, generation, batches, tail),
         }
     }
 
     /// Closes what is in doubt, and then makes the device that doesn't count the next generation.
-    fn switch<D: Disk>(
+    pub(crate) fn switch<D: Disk>(
         &mut self,
         store: &mut Store<D>,
         batches: &[Bytes],
         tail: u64,
     ) -> Result<(), DiskFailed>
         requires stands { D.honest (counting self.old.side store.old) → IsKept D.moment D.images self.old store.old }
-        requires next { self.old.generation < 2 ^ 63 - 1 }
         requires batches { All IsPayload batches.now }
         requires room { length (records Second batches.now) < 2 ^ 61 }
         requires tail { tail ≡ 18 + length (records Second batches.now) }
-        ensures replaces { (payloads : List (List ℕ)) (doubt : Option (List ℕ)) → (self.old.edition ≡ Second) ⊎ (doubt ≡ None) → D.honest (counting self.old.side store.old) → D.honest (other self.old.side store.old)
+        ensures replaces { (payloads : List (List ℕ)) (doubt : Option (List ℕ)) → self.old.generation < 2 ^ 63 - 1 → (self.old.edition ≡ Second) ⊎ (doubt ≡ None) → D.honest (counting self.old.side store.old) → D.honest (other self.old.side store.old)
             → Stands D.moment D.images self.old store.old payloads doubt → Replaces D.moment D.images self.old self.new store.old store.new payloads doubt batches.now (is_ok result) }
         ensures replaces_beside { (payloads doubted : List (List ℕ)) → D.honest (counting self.old.side store.old) → D.honest (other self.old.side store.old)
             → StandsBeside D.moment D.images self.old store.old payloads doubted → ReplacesBeside D.moment D.images self.old self.new store.old store.new payloads doubted batches.now (is_ok result) }
@@ -171,7 +177,7 @@ impl Journal {
         ensures cause { result ≡ Err AppendFault.Disk → Rose (D.faults (counting self.old.side store.old)) (D.faults (counting self.old.side store.new))
             ⊎ Rose (D.faults (other self.old.side store.old)) (D.faults (other self.old.side store.new)) }
     {
-        if self.generation == LAST_GENERATION {
+        if self.generation >= LAST_GENERATION {
             return Err(AppendFault::Full {
                 tail: LAST_GENERATION,
                 asked: 1,

@@ -1,4 +1,4 @@
-use Rattle.std.proofs.Common.{None, inl, inr, sym, ◌∙◌, ap, subst}
+use Rattle.std.proofs.Common.{◌-◌, ◌^◌, ◌<◌, None, inl, inr, sym, ◌∙◌, ap, subst, arith}
 use Rattle.ws_journal.specs.declared.store.Side.{Side}
 use Rattle.ws_journal.specs.declared.store.Store.{Store}
 use Rattle.ws_journal.specs.declared.journal.Journal.{Journal}
@@ -33,7 +33,7 @@ returns-in_err-close_beside-clause-replaces_beside g c = λ payloads doubted hon
     inr (not_done _ c.from_residual-in_err-close_beside.result c.from_residual-in_err-close_beside.ensures.1, closing, c.in_err-close_beside.ensures.closes payloads doubted there stands1)
 
 pub returns-clause-replaces : goal.returns-clause-replaces
-returns-clause-replaces g c = λ payloads doubt edition honest beside stands.
+returns-clause-replaces g c = λ payloads doubt small edition honest beside stands.
     let D = g.D.Disk in
     let journal = c.args.self.now in
     let old = c.args.store.now in
@@ -47,6 +47,7 @@ returns-clause-replaces g c = λ payloads doubt edition honest beside stands.
     (subst (λ (s : Store g.row.D.Denot). Stands D.moment D.images first s payloads None) (sym same.1) stands1) in
     let there = subst D.honest (sym (ap (λ (s : Side). other s mid) c.close_batch.ensures.same.side ∙ c.close_batch.ensures.untouched)) beside in
     let there2 = subst D.honest (sym (ap (λ (s : Side). other s last) c.close_beside.ensures.same.side)) (c.close_beside.ensures.honesty.1 there) in
+    let small2 : second.generation < 2 ^ 63 - 1 = omega (arith, small, c.close_batch.ensures.same.generation, c.close_beside.ensures.same.generation) in
     inl (record {
       closed = second;
       between = last;
@@ -54,8 +55,8 @@ returns-clause-replaces g c = λ payloads doubt edition honest beside stands.
       closing = subst (λ (s : Store g.row.D.Denot). CountingCrash D.moment D.images journal.side old s (ReadsLeft journal payloads doubt)) (sym same.1)
           (c.close_batch.ensures.any_moment payloads doubt edition honest stands);
       stands = stands2;
-      making = c.make_next.ensures.any_moment payloads there2 stands2;
-      replaced = c.make_next.ensures.replaced payloads there2 stands2;
+      making = c.make_next.ensures.any_moment payloads small2 there2 stands2;
+      replaced = c.make_next.ensures.replaced payloads small2 there2 stands2;
     })
 
 pub returns-clause-replaces_beside : goal.returns-clause-replaces_beside
@@ -73,6 +74,7 @@ returns-clause-replaces_beside g c = λ payloads doubted honest beside stands.
     let stands1 = subst (λ (j : Journal). StandsBeside D.moment D.images j mid payloads doubted) (sym same.0)
     (subst (λ (s : Store g.row.D.Denot). StandsBeside D.moment D.images journal s payloads doubted) (sym same.1) stands) in
     let stands2 = c.in_ok-close_beside.ensures.closes payloads doubted there stands1 in
+    let small2 : second.generation < 2 ^ 63 - 1 = omega (arith, stands.next, c.close_batch.ensures.same.generation, c.close_beside.ensures.same.generation) in
     inl (record {
       closed = second;
       between = last;
@@ -81,6 +83,6 @@ returns-clause-replaces_beside g c = λ payloads doubted honest beside stands.
           (subst (λ (s : Store g.row.D.Denot). BesideCrash D.moment D.images first.side s last (ReadsOlderOrNewer first payloads doubted)) same.1
           (c.close_beside.ensures.any_moment payloads doubted there stands1));
       stands = stands2;
-      making = c.make_next.ensures.any_moment payloads there2 stands2;
-      replaced = c.make_next.ensures.replaced payloads there2 stands2;
+      making = c.make_next.ensures.any_moment payloads small2 there2 stands2;
+      replaced = c.make_next.ensures.replaced payloads small2 there2 stands2;
     })

@@ -1,0 +1,8 @@
+-- What holds of an answer.
+use Rattle.std.proofs.Common.{◌≡◌, Result, Ok, Err, sym, subst}
+use Rattle.std.specs.Prelude.{IsErrAnd}
+
+-- a fault that was passed on
+pub err_as : {T E : Type 0} (Q : Result T E → Type 0) (r : Result T E) (fault : E) → IsErrAnd r (λ e. e ≡ fault) → Q (Err fault) → Q r
+err_as Q (Ok x) fault is holds = absurd is
+err_as Q (Err e) fault is holds = subst (λ (x : _). Q (Err x)) (sym is) holds

@@ -1,0 +1,17 @@
+use Rattle.std.proofs.Common.{◌≡◌, ◌<◌, ◌≤◌, ◌-◌, length}
+use Rattle.ws_journal.specs.Looks.{OnlyReads}
+use Rattle.ws_journal.proofs.Found.{SoFar}
+use Rattle.ws_journal.proofs.scan.read_records.Given as goal
+
+abbrev pub invariant-loop-batches : goal.invariant-loop-batches
+invariant-loop-batches g l =
+    let D = g.D.Disk in
+    record {
+      begun : 17 ≤ l.at;
+      within : l.at < l.size;
+      reads : OnlyReads D.honest D.seen D.moment D.images D.faults l.fn.disk l.disk;
+      so_far : D.honest l.fn.disk → l.size ≡ length (D.seen l.fn.disk) → SoFar l.edition l.at (D.seen l.fn.disk) l.batches.items;
+    }
+
+abbrev pub decreases-loop-batches : goal.decreases-loop-batches
+decreases-loop-batches g l = l.size - l.at

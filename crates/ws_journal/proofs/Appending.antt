@@ -13,20 +13,21 @@ use Rattle.ws_journal.specs.declared.store.AppendFault.TheVariants.{Disk, Full, 
 use Rattle.ws_journal.specs.declared.journal.Journal.{Journal}
 use Rattle.ws_journal.specs.Text.{front, record_text, IsPayload}
 use Rattle.ws_journal.specs.Image.{found, IsGeneration, IsBelow}
-use Rattle.ws_journal.specs.Kept.{IsShut, IsWithOrWithout, Each}
+use Rattle.ws_journal.specs.Kept.{IsShut, IsWithOrWithout}
+use Rattle.ws_journal.specs.Made.{IsSpare}
 use Rattle.ws_journal.specs.Stands.{counting, other, ReadsAs, IsLeft, IsDoubted, Counts, Stands, SameJournal, MayDoubt, Appends, ClosesFirst, ReadsEither, MayRead, AppendCrash, DoubtClosed, Appended}
 use Rattle.ws_disk.proofs.Goes.{started}
 use Rattle.ws_journal.proofs.Files.{doubt_either, shut_within}
 use Rattle.ws_journal.proofs.Records.{doubt_within}
 use Rattle.ws_journal.proofs.Readings.{front-push, reads_found}
 
-reads_side : (side : Side) (edition : Edition) (generation : ℕ) (payloads : List (List ℕ)) (file second : List ℕ) → IsGeneration edition generation → All IsPayload payloads
+pub reads_side : (side : Side) (edition : Edition) (generation : ℕ) (payloads : List (List ℕ)) (file second : List ℕ) → IsGeneration edition generation → All IsPayload payloads
     → IsShut (front edition generation payloads) file → IsBelow generation second → ReadsAs side file second (found edition generation payloads)
 reads_side A edition generation payloads file second is batches shut below = (reads_found edition generation payloads file second is batches shut below).0
 reads_side B edition generation payloads file second is batches shut below = (reads_found edition generation payloads file second is batches shut below).1
 
 -- one more open record, in edition 2
-one_more : (edition : Edition) (generation : ℕ) (payloads : List (List ℕ)) (payload : List ℕ) → edition ≡ Second
+pub one_more : (edition : Edition) (generation : ℕ) (payloads : List (List ℕ)) (payload : List ℕ) → edition ≡ Second
     → front edition generation payloads ++ 1 ∷ record_text Second payload ≡ front edition generation (payloads ++ payload ∷ [])
 one_more edition generation payloads payload is =
     ap (λ (e : Edition). front edition generation payloads ++ 1 ∷ record_text e payload) (sym is) ∙ sym (front-push edition generation payloads payload)
@@ -63,6 +64,23 @@ module _ (journal : Journal) (payloads : List (List ℕ)) (edition : journal.edi
   may_read doubt payload file second batch doubted below (inl either) = reads_new doubt payload file second (reads_either payload file second batch below either)
   may_read doubt payload file second batch doubted below (inr left) = reads_left doubt payload file second doubted below left
 
+module _ {D : Type 0} (moment : D → ℕ) (images : D → ℕ → List ℕ → Type 0) (journal after : Journal) (old new : Store D) (payloads : List (List ℕ)) (doubt : Option (List ℕ))
+    (stands : Stands moment images journal old payloads doubt) (untouched : other journal.side new ≡ other journal.side old) where
+  -- what a journal that changed so stands for
+  pub standing_on : (left : Option (List ℕ)) (more : List (List ℕ)) → SameJournal journal after → All IsPayload more → IsDoubted left
+      → Counts after (front journal.edition journal.generation more) left (images (counting journal.side new) (moment (counting journal.side new))) → Stands moment images after new more left
+  standing_on left more same batches doubted counts =
+      let by_generation = subst (λ (g : ℕ). Counts after (front journal.edition g more) left (images (counting journal.side new) (moment (counting journal.side new)))) (sym same.generation) counts in
+      let by_edition = subst (λ (e : Edition). Counts after (front e after.generation more) left (images (counting journal.side new) (moment (counting journal.side new)))) (sym same.edition) by_generation in
+      let rest = subst (λ (g : ℕ). IsSpare g (images (other journal.side new) (moment (other journal.side new)))) (sym same.generation) (subst (λ (d : D). IsSpare journal.generation (images d (moment d))) (sym untouched) stands.rest) in
+      record {
+        generation = subst (λ (e : Edition). IsGeneration e after.generation) (sym same.edition) (subst (λ (g : ℕ). IsGeneration journal.edition g) (sym same.generation) stands.generation);
+        batches = batches;
+        doubted = doubted;
+        device = subst (λ (s : Side). Counts after (front after.edition after.generation more) left (images (counting s new) (moment (counting s new)))) (sym same.side) by_edition;
+        rest = subst (λ (s : Side). IsSpare after.generation (images (other s new) (moment (other s new)))) (sym same.side) rest;
+      }
+
 -- the moments of the device that counts are those of the store
 module _ {D : Type 0} (moment : D → ℕ) (images : D → ℕ → List ℕ → Type 0) (journal after : Journal) (old new : Store D) (payloads : List (List ℕ)) (doubt : Option (List ℕ)) (payload : List ℕ)
     (edition : journal.edition ≡ Second) (batch : IsPayload payload) (stands : Stands moment images journal old payloads doubt) (untouched : other journal.side new ≡ other journal.side old) where
@@ -73,7 +91,7 @@ module _ {D : Type 0} (moment : D → ℕ) (images : D → ℕ → List ℕ → 
   Rest = images (other journal.side new) (moment (other journal.side new))
 
   below : (second : List ℕ) → Rest second → IsBelow journal.generation second
-  below second there = stands.rest second (subst (λ (d : D). images d (moment d) second) untouched there)
+  below second there = stands.rest.below second (subst (λ (d : D). images d (moment d) second) untouched there)
 
   pub crash : LeavesOnly moment images (counting journal.side old) (counting journal.side new) (λ image. IsWithOrWithout begins (record_text Second payload) image ⊎ IsLeft begins doubt image)
       → AppendCrash moment images journal old new payloads doubt payload
@@ -86,20 +104,9 @@ module _ {D : Type 0} (moment : D → ℕ) (images : D → ℕ → List ℕ → 
     untouched = untouched;
   }
 
-  -- what a journal that changed so stands for
   standing : (left : Option (List ℕ)) (more : List (List ℕ)) → SameJournal journal after → All IsPayload more → IsDoubted left
       → Counts after (front journal.edition journal.generation more) left (images (counting journal.side new) (moment (counting journal.side new))) → Stands moment images after new more left
-  standing left more same batches doubted counts =
-      let by_generation = subst (λ (g : ℕ). Counts after (front journal.edition g more) left (images (counting journal.side new) (moment (counting journal.side new)))) (sym same.generation) counts in
-      let by_edition = subst (λ (e : Edition). Counts after (front e after.generation more) left (images (counting journal.side new) (moment (counting journal.side new)))) (sym same.edition) by_generation in
-      let rest = subst (λ (g : ℕ). Each (images (other journal.side new) (moment (other journal.side new))) (IsBelow g)) (sym same.generation) below in
-      record {
-        generation = subst (λ (e : Edition). IsGeneration e after.generation) (sym same.edition) (subst (λ (g : ℕ). IsGeneration journal.edition g) (sym same.generation) stands.generation);
-        batches = batches;
-        doubted = doubted;
-        device = subst (λ (s : Side). Counts after (front after.edition after.generation more) left (images (counting s new) (moment (counting s new)))) (sym same.side) by_edition;
-        rest = subst (λ (s : Side). Each (images (other s new) (moment (other s new))) (IsBelow after.generation)) (sym same.side) rest;
-      }
+  standing = standing_on moment images journal after old new payloads doubt stands untouched
 
   pub closes_first : (result : Result (Unit {0}) AppendFault) → SameJournal journal after
       → ClosesFirst moment images (counting journal.side old) (counting journal.side new) after begins doubt payload result → DoubtClosed moment images journal after old new payloads doubt payload result

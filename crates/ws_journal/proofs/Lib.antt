@@ -11,7 +11,9 @@ mod Moments
 mod Once
 mod Opening
 mod Readings
+mod Recorded
 mod Records
+mod Replacing
 mod Results
 mod Spare
 mod Standing

@@ -1,10 +1,12 @@
 -- What a run of writes behind a place leaves of a file.
 use Rattle.std.proofs.Common.{◌≡◌, ℕ, ◌+◌, ◌≤◌, ◌<◌, min, List, [], ◌∷◌, ◌++◌, length, take, drop, sym, ◌∙◌, ap, arith, append_assoc, length-append, refl, get_or, take-append-drop}
 use Rattle.std.proofs.lemmas.List.{take-take, take_min, take_more, append-nil}
+use Rattle.std.proofs.lemmas.List.Sums.{sum_by-cons}
 use Rattle.ws_disk.specs.Crash.{overwritten, LeavesOnly}
 use Rattle.ws_journal.specs.declared.store.Edition.TheVariants.{Second}
 use Rattle.ws_journal.specs.Text.{record_text, records}
 use Rattle.ws_journal.specs.Kept.{Keeps, After, Each}
+use Rattle.ws_journal.specs.Replaced.{records_len}
 use Rattle.ws_journal.proofs.Moments.{then_run, weaker}
 use Rattle.ws_journal.proofs.Files.{overwritten_on}
 use Rattle.ws_journal.proofs.Records.{length-record}
@@ -87,3 +89,15 @@ written_more at end payloads i payload file place is within item =
     let text = 1 ∷ record_text Second payload in
     ap (λ (n : ℕ). overwritten n text (overwritten at first file)) is ∙ overwritten_on at first text file place
     ∙ ap (λ (l : List ℕ). overwritten at l file) (sym (records_more payloads i payload within item))
+
+-- what the records come to
+pub length-records : (payloads : List (List ℕ)) → length (records Second payloads) ≡ records_len payloads
+length-records [] = refl
+length-records (payload ∷ payloads) =
+    omega (
+      arith,
+      length-append (1 ∷ record_text Second payload) (records Second payloads),
+      length-record payload,
+      length-records payloads,
+      sum_by-cons (λ (p : List ℕ). length p + 37) payload payloads,
+    )

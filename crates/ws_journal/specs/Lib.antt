@@ -5,5 +5,6 @@ pub mod Looks
 pub mod Made
 pub mod OneReading
 pub mod Recovered
+pub mod Replaced
 pub mod Stands
 pub mod Text

@@ -12,8 +12,9 @@ use Rattle.ws_journal.specs.declared.journal.Journal.{Journal}
 use Rattle.ws_journal.specs.declared.journal.Doubt.{Doubt}
 use Rattle.ws_journal.specs.declared.journal.Doubt.TheVariants.{Nothing, Batch}
 use Rattle.ws_journal.specs.Text.{front, record_text, IsPayload}
-use Rattle.ws_journal.specs.Image.{Reading, found, Reads, IsGeneration, IsBelow}
+use Rattle.ws_journal.specs.Image.{Reading, found, Reads, IsGeneration}
 use Rattle.ws_journal.specs.Kept.{IsShut, IsInDoubt, IsWithOrWithout, Each}
+use Rattle.ws_journal.specs.Made.{IsSpare}
 
 abbrev pub edition_number : Edition → ℕ
 edition_number First = 1
@@ -59,7 +60,7 @@ pub record Stands {D : Type 0} (moment : D → ℕ) (images : D → ℕ → List
   pub batches : All IsPayload payloads
   pub doubted : IsDoubted doubt
   pub device : Counts journal (front journal.edition journal.generation payloads) doubt (images (counting journal.side store) (moment (counting journal.side store)))
-  pub rest : Each (images (other journal.side store) (moment (other journal.side store))) (IsBelow journal.generation)
+  pub rest : IsSpare journal.generation (images (other journal.side store) (moment (other journal.side store)))
 
 -- from some moment of the call on each image of the device has P
 pub record Settles {D : Type 0} (moment : D → ℕ) (images : D → ℕ → List ℕ → Type 0) (old new : D) (P : List ℕ → Type 0) : Type 0 where

@@ -1,5 +1,5 @@
 // Appending a batch to the device that counts.
-ghost use Rattle.std.specs.Prelude.{◌≡◌, ◌≤◌, ◌+◌, ◌^◌, ◌<◌, ◌∷◌, ◌++◌, [], ◌↔◌, ◌⊎◌, List, ℕ, length, take, Option, Some, None, Err, OnOk, OnErr, IsErr, IsErrOf};
+ghost use Rattle.std.specs.Prelude.{◌≡◌, ◌≤◌, ◌+◌, ◌^◌, ◌<◌, ◌∷◌, ◌++◌, [], ◌↔◌, ◌⊎◌, List, ℕ, length, take, Option, Some, None, Ok, Err, OnOk, OnErr, IsErr, IsErrOf};
 ghost use Rattle.ws_model.specs.Cause.{HasCause, Rose};
 ghost use Rattle.ws_disk.specs.Crash.{LeavesOnly};
 ghost use Rattle.ws_journal.specs.declared.append.Stop.TheVariants.{Before, InDoubt};
@@ -58,11 +58,14 @@ fn append_record<D: Disk>(disk: &mut D, tail: u64, payload: &[u8]) -> Result<(),
 }
 
 impl Journal {
-    ghost use Rattle.ws_journal.specs.Stands.{IsLeft, Counts, SameJournal, Closes, ClosesFirst, Appends, Stands, counting, AppendCrash, DoubtClosed, Appended, PassesLimit, FullExactly};
+    ghost use Rattle.ws_journal.specs.declared.journal.Doubt.TheVariants.{Batch, Device};
+    ghost use Rattle.ws_journal.specs.Stands.{IsLeft, Counts, SameJournal, Closes, ClosesFirst, Appends, Stands, counting, other, AppendCrash, DoubtClosed, Appended, PassesLimit, FullExactly};
+    ghost use Rattle.ws_journal.specs.Replaced.{StandsBeside, IsKept, AppendsBeside};
 
     /// Closes the gate of the device that counts where it is in doubt.
-    fn close_doubt<D: Disk>(&mut self, disk: &mut D) -> Result<(), DiskFailed>
+    pub(crate) fn close_doubt<D: Disk>(&mut self, disk: &mut D) -> Result<(), DiskFailed>
         requires place { D.honest disk.old → self.old.tail ≤ length (D.seen disk.old) }
+        ensures nothing { (self.old.doubt ≡ Batch → ⊥) → (self.new ≡ self.old) × (disk.new ≡ disk.old) × (result ≡ Ok tt) }
         ensures any_moment { (front : List ℕ) (doubt : Option (List ℕ)) → D.honest disk.old → Counts self.old front doubt (D.images disk.old (D.moment disk.old))
             → LeavesOnly D.moment D.images disk.old disk.new (IsLeft front doubt) }
         ensures closes { (front : List ℕ) (doubt : Option (List ℕ)) → D.honest disk.old → Counts self.old front doubt (D.images disk.old (D.moment disk.old))
@@ -110,6 +113,34 @@ impl Journal {
         }
     }
 
+    /// Appends a batch to the device of a store that counts. It takes no memory.
+    fn append_counting<D: Disk>(
+        &mut self,
+        store: &mut Store<D>,
+        payload: &[u8],
+    ) -> Result<(), AppendFault>
+        requires edition { self.old.edition ≡ Second }
+        requires batch { IsPayload payload.now }
+        requires place { D.honest (counting self.old.side store.old) → self.old.tail ≤ length (D.seen (counting self.old.side store.old)) }
+        requires room { self.old.tail < 2 ^ 62 }
+        ensures any_moment { (payloads : List (List ℕ)) (doubt : Option (List ℕ)) → D.honest (counting self.old.side store.old) → Stands D.moment D.images self.old store.old payloads doubt
+            → AppendCrash D.moment D.images self.old store.old store.new payloads doubt payload.now }
+        ensures doubt_closed { (payloads : List (List ℕ)) (doubt : Option (List ℕ)) → D.honest (counting self.old.side store.old) → Stands D.moment D.images self.old store.old payloads doubt
+            → DoubtClosed D.moment D.images self.old self.new store.old store.new payloads doubt payload.now result }
+        ensures appended { (payloads : List (List ℕ)) (doubt : Option (List ℕ)) → D.honest (counting self.old.side store.old) → Stands D.moment D.images self.old store.old payloads doubt
+            → Appended D.moment D.images self.new store.new payloads doubt payload.now result }
+        ensures same { SameJournal self.old self.new }
+        ensures only_disk { IsErr result → result ≡ Err AppendFault.Disk }
+        ensures untouched { other self.old.side store.new ≡ other self.old.side store.old }
+        ensures honesty { D.honest (counting self.old.side store.new) ↔ D.honest (counting self.old.side store.old) }
+        ensures cause { HasCause (D.faults (counting self.old.side store.old)) (D.faults (counting self.old.side store.new)) result }
+    {
+        match self.side {
+            Side::A => self.append_to(&mut store.a, payload),
+            Side::B => self.append_to(&mut store.b, payload),
+        }
+    }
+
     /// Appends a batch, whose text this is, and confirms it. It takes no memory.
     ///
     /// The journal is of edition 2, and the store is the one that it was recovered from, changed since by
@@ -119,7 +150,8 @@ impl Journal {
     ///
     /// `Full` where the record would pass the limit, before any call of a device. `Disk` where a device
     /// failed: the batch is then in doubt where its gate's write was begun, and the next call closes that
-    /// gate before it writes anything else.
+    /// gate before it writes anything else. So it closes first what an earlier call left in doubt, a batch
+    /// or the other device.
     pub fn append<D: Disk>(
         &mut self,
         store: &mut Store<D>,
@@ -127,7 +159,7 @@ impl Journal {
     ) -> Result<(), AppendFault>
         requires edition { self.old.edition ≡ Second }
         requires batch { IsPayload payload.now }
-        requires stands { D.honest (counting self.old.side store.old) → (payloads : List (List ℕ)) × (doubt : Option (List ℕ)) × Stands D.moment D.images self.old store.old payloads doubt }
+        requires stands { D.honest (counting self.old.side store.old) → IsKept D.moment D.images self.old store.old }
         ensures full { FullExactly self.old payload.now result }
         ensures untouched { PassesLimit self.old payload.now → (store.new ≡ store.old) × (self.new ≡ self.old) }
         // A crash at any moment of the call leaves the batches before it, with the new one or without.
@@ -137,10 +169,17 @@ impl Journal {
             → (PassesLimit self.old payload.now → ⊥) → DoubtClosed D.moment D.images self.old self.new store.old store.new payloads doubt payload.now result }
         ensures appended { (payloads : List (List ℕ)) (doubt : Option (List ℕ)) → D.honest (counting self.old.side store.old) → Stands D.moment D.images self.old store.old payloads doubt
             → Appended D.moment D.images self.new store.new payloads doubt payload.now result }
+        // A device in doubt is closed first, and then the batch is appended as beside no doubt.
+        ensures device_closed { (payloads newer : List (List ℕ)) → D.honest (counting self.old.side store.old) → D.honest (other self.old.side store.old)
+            → StandsBeside D.moment D.images self.old store.old payloads newer → (PassesLimit self.old payload.now → ⊥)
+            → AppendsBeside D.moment D.images self.old self.new store.old store.new payloads newer payload.now result }
         ensures same { SameJournal self.old self.new }
         ensures honesty { D.honest (counting self.old.side store.new) ↔ D.honest (counting self.old.side store.old) }
+        ensures other_honesty { D.honest (other self.old.side store.new) ↔ D.honest (other self.old.side store.old) }
         ensures later { D.faults (counting self.old.side store.old) ≤ D.faults (counting self.old.side store.new) }
-        ensures cause { result ≡ Err AppendFault.Disk → Rose (D.faults (counting self.old.side store.old)) (D.faults (counting self.old.side store.new)) }
+        ensures other_later { D.faults (other self.old.side store.old) ≤ D.faults (other self.old.side store.new) }
+        ensures cause { result ≡ Err AppendFault.Disk → Rose (D.faults (counting self.old.side store.old)) (D.faults (counting self.old.side store.new))
+            ⊎ ((self.old.doubt ≡ Device) × Rose (D.faults (other self.old.side store.old)) (D.faults (other self.old.side store.new))) }
     {
         let asked = payload.len() as u64 + RECORD_BYTES;
         if asked > self.limit || self.tail > self.limit - asked {
@@ -149,9 +188,7 @@ impl Journal {
                 asked,
             });
         }
-        match self.side {
-            Side::A => self.append_to(&mut store.a, payload),
-            Side::B => self.append_to(&mut store.b, payload),
-        }
+        self.close_beside(store)?;
+        self.append_counting(store, payload)
     }
 }

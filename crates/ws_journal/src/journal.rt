@@ -9,6 +9,8 @@ pub(crate) enum Doubt {
     Nothing,
     /// The gate of the last batch: its write was begun, and not confirmed.
     Batch,
+    /// The gate of the other device, which is of the next generation.
+    Device,
 }
 
 /// A journal of batches on two devices.

@@ -14,10 +14,14 @@ mod record;
 mod recover;
 #[cfg(test)]
 mod recover_tests;
+mod replace;
 mod scan;
+mod settle;
 mod store;
 #[cfg(test)]
 mod tests;
+mod upgrade;
 
 pub use journal::Journal;
 pub use store::{AppendFault, Batch, Edition, OpenFault, ReadBack, Store};
+pub use upgrade::UpgradeFault;

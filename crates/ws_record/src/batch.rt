@@ -6,7 +6,6 @@ ghost use Rattle.ws_record.specs.Text.{capped};
 ghost use Rattle.ws_record.specs.Batch.{event_text, EventFits, AreEvents, batch_text, IsBatch};
 ghost use Rattle.ws_record.specs.Reading.{Reads, Apart};
 
-use crate::MAX_BATCH;
 use crate::field::{ReadField, WriteField};
 use std::alloc::Global;
 use ws_model::{Bytes, Event, NoMemory, What};
@@ -16,7 +15,7 @@ const TIME_END: u64 = 1 << 48;
 
 fn write_event(event: &Event, out: &mut Vec<u8>) -> Result<(), NoMemory>
     requires time { event.now.t < 2 ^ 48 }
-    requires short { length (event_text event.now) ≤ MAX_BATCH }
+    requires short { length (event_text event.now) < 2 ^ 32 }
     ensures written { OnOk result (out.new.items ≡ out.old.items ++ event_text event.now) }
     ensures fits { OnOk result (EventFits event.now) }
 {
@@ -85,12 +84,12 @@ pub fn batch_len(events: &[Event]) -> u64
 
 /// The text of a batch of these events.
 ///
-/// There is at least one, each time is below 2^48 seconds, and the text is no longer than
-/// [`MAX_BATCH`], which [`batch_len`] tells.
+/// There is at least one, each time is below 2^48 seconds, and the text is shorter than 2^32 bytes:
+/// [`batch_len`] tells its length.
 pub fn write_batch(alloc: Global, events: &[Event]) -> Result<Bytes, NoMemory>
     requires some { 0 < length events.now }
     requires times { All (λ e. e.t < 2 ^ 48) events.now }
-    requires short { length (batch_text events.now) ≤ MAX_BATCH }
+    requires short { length (batch_text events.now) < 2 ^ 32 }
     ensures text { IfOk result (λ text. text ≡ batch_text events.now) }
     // What is written is read again.
     ensures batch { OnOk result (IsBatch events.now) }

@@ -6,7 +6,6 @@ ghost use Rattle.ws_record.specs.Reading.{Reads, Apart, both, BothFit};
 ghost use Rattle.ws_record.specs.NumberLaws.{wide16, wide32, wide64, number-apart};
 ghost use Rattle.ws_record.specs.FieldLaws.{nothing-apart, bytes-apart, mode-apart, alg-apart, flag-apart, how-apart, both-apart};
 
-use crate::MAX_BATCH;
 use std::alloc::Global;
 use ws_model::{Alg, Bytes, How, Mode, NoMemory};
 
@@ -18,7 +17,7 @@ pub trait WriteField {
 
     /// Adds the text at the end.
     fn write(&self, out: &mut Vec<u8>) -> Result<(), NoMemory>
-        requires { length (text self.now) ≤ MAX_BATCH }
+        requires { length (text self.now) < 2 ^ 32 }
         ensures written { OnOk result (out.new.items ≡ out.old.items ++ text self.now) }
         ensures fits { OnOk result (fits self.now) };
 

@@ -1,106 +1,70 @@
-use Rattle.std.proofs.Common.{◌≡◌, ℕ, Result, Ok, Err, IsErr, refl, sym, subst, arith}
+use Rattle.std.proofs.Common.{None, inl, inr, length, sym, ◌∙◌, ap, subst, arith}
 use Rattle.ws_journal.specs.declared.store.Side.{Side}
-use Rattle.ws_journal.specs.declared.store.Side.TheVariants.{A, B}
-use Rattle.ws_journal.specs.declared.store.AppendFault.{AppendFault}
-use Rattle.ws_journal.specs.declared.store.AppendFault.TheVariants.{Disk as Failed, Full}
-use Rattle.ws_journal.specs.Text.{front}
-use Rattle.ws_journal.specs.Stands.{counting}
-use Rattle.ws_journal.proofs.Appending.{with_a, with_b, counts_at, place_at, crash_at, closes_at, appended_at, crash_none}
+use Rattle.ws_journal.specs.declared.store.Store.{Store}
+use Rattle.ws_journal.specs.declared.journal.Journal.{Journal}
+use Rattle.ws_journal.specs.Stands.{counting, Stands, DoubtClosed}
+use Rattle.ws_journal.proofs.Appending.{crash_none}
+use Rattle.ws_journal.proofs.Replacing.{not_device, kept_place, failed_is}
 use Rattle.ws_journal.proofs.journal.Journal.append.Goals as goal
-
-not_full : (result : Result (Unit {0}) AppendFault) (tail asked : ℕ) → (IsErr result → result ≡ Err Failed) → result ≡ Err (Full tail asked) → ⊥
-not_full (Ok done) tail asked only is = cc
-not_full (Err fault) tail asked only is = let failed = only refl in cc
 
 pub returns-then-asked-self-clause-any_moment : goal.returns-then-asked-self-clause-any_moment
 returns-then-asked-self-clause-any_moment g c = λ payloads doubt honest stands.
     let D = g.D.Disk in
     crash_none D.moment D.images c.args.self.now c.args.store.now payloads doubt c.args.payload.now c.requires.edition c.requires.batch stands
 
-pub append_to-requires-clause-place : goal.append_to-requires-clause-place
-append_to-requires-clause-place g c = λ honest.
+pub returns-in_err-close_beside-clause-device_closed : goal.returns-in_err-close_beside-clause-device_closed
+returns-in_err-close_beside-clause-device_closed g c = λ payloads newer honest beside stands within.
+    inr (
+      failed_is _ c.from_residual.result c.from_residual.ensures.1,
+      c.close_beside.ensures.any_moment payloads newer beside stands,
+      c.in_err-close_beside.ensures.closes payloads newer beside stands,
+    )
+
+pub append_counting-requires-clause-place : goal.append_counting-requires-clause-place
+append_counting-requires-clause-place g c = λ honest1.
     let D = g.D.Disk in
-    let store = c.args.store.now in
     let journal = c.args.self.now in
-    let stands = c.requires.stands (subst (λ (s : Side). D.honest (counting s store)) (sym c.in-A.is) honest) in
-    place_at D.moment D.images journal A c.in-A.is store stands.0 stands.1 stands.2 (D.seen store.a) (g.met.D.Disk.seen_is_image store.a honest)
+    let store = c.args.store.now in
+    let disk = ap (λ (s : Side). counting s c.close_beside.new.store) c.close_beside.ensures.same.side ∙ c.close_beside.ensures.untouched in
+    let honest = subst D.honest disk honest1 in
+    let file = D.seen (counting journal.side store) in
+    omega (
+      arith,
+      kept_place D.moment D.images journal store file (c.requires.stands honest) (g.met.D.Disk.seen_is_image (counting journal.side store) honest),
+      c.close_beside.ensures.tail,
+      ap (λ (d : g.row.D.Denot). length (D.seen d)) disk,
+    )
 
-pub returns-in-A-clause-full : goal.returns-in-A-clause-full
-returns-in-A-clause-full g c = record {
-  always = λ past. absurd (omega arith);
-  only = λ tail asked is. absurd (not_full c.append_to.result tail asked c.append_to.ensures.only_disk is);
-}
-
-pub returns-in-A-clause-any_moment : goal.returns-in-A-clause-any_moment
-returns-in-A-clause-any_moment g c = λ payloads doubt honest stands.
+pub returns-clause-doubt_closed : goal.returns-clause-doubt_closed
+returns-clause-doubt_closed g c = λ payloads doubt honest stands within.
     let D = g.D.Disk in
-    let store = c.args.store.now in
     let journal = c.args.self.now in
-    let there = subst (λ (s : Side). D.honest (counting s store)) c.in-A.is honest in
-    let counts = counts_at D.moment D.images journal A c.in-A.is store payloads doubt stands in
-    crash_at D.moment D.images journal A c.in-A.is store payloads doubt stands c.append_to.new.self (with_a store c.append_to.new.disk) c.args.payload.now c.requires.edition c.requires.batch refl
-    (c.append_to.ensures.any_moment (front journal.edition journal.generation payloads) doubt there counts)
+    let store = c.args.store.now in
+    let payload = c.args.payload.now in
+    let mid = c.close_beside.new.store in
+    let after = c.append_counting.new.self in
+    let last = c.append_counting.new.store in
+    let same = c.close_beside.ensures.nothing (not_device journal doubt stands.device.known) in
+    let disk = ap (λ (s : Side). counting s mid) c.close_beside.ensures.same.side ∙ c.close_beside.ensures.untouched in
+    let honest1 = subst D.honest (sym disk) honest in
+    let stands1 = subst (λ (j : Journal). Stands D.moment D.images j mid payloads doubt) (sym same.0)
+    (subst (λ (s : Store g.row.D.Denot). Stands D.moment D.images journal s payloads doubt) (sym same.1) stands) in
+    subst (λ (j : Journal). DoubtClosed D.moment D.images j after store last payloads doubt payload c.append_counting.result) same.0
+    (subst (λ (s : Store g.row.D.Denot). DoubtClosed D.moment D.images c.close_beside.new.self after s last payloads doubt payload c.append_counting.result) same.1
+    (c.append_counting.ensures.doubt_closed payloads doubt honest1 stands1))
 
-pub returns-in-A-clause-doubt_closed : goal.returns-in-A-clause-doubt_closed
-returns-in-A-clause-doubt_closed g c = λ payloads doubt honest stands within.
+pub returns-clause-device_closed : goal.returns-clause-device_closed
+returns-clause-device_closed g c = λ payloads newer honest beside stands within.
     let D = g.D.Disk in
-    let store = c.args.store.now in
-    let journal = c.args.self.now in
-    let there = subst (λ (s : Side). D.honest (counting s store)) c.in-A.is honest in
-    let counts = counts_at D.moment D.images journal A c.in-A.is store payloads doubt stands in
-    closes_at D.moment D.images journal A c.in-A.is store payloads doubt stands c.append_to.new.self (with_a store c.append_to.new.disk) c.args.payload.now c.requires.edition c.requires.batch refl
-    c.append_to.result c.append_to.ensures.same (c.append_to.ensures.closes_first (front journal.edition journal.generation payloads) doubt there counts)
-
-pub returns-in-A-clause-appended : goal.returns-in-A-clause-appended
-returns-in-A-clause-appended g c = λ payloads doubt honest stands.
-    let D = g.D.Disk in
-    let store = c.args.store.now in
-    let journal = c.args.self.now in
-    let there = subst (λ (s : Side). D.honest (counting s store)) c.in-A.is honest in
-    let counts = counts_at D.moment D.images journal A c.in-A.is store payloads doubt stands in
-    appended_at D.moment D.images journal A c.in-A.is store payloads doubt stands c.append_to.new.self (with_a store c.append_to.new.disk) c.args.payload.now c.requires.edition c.requires.batch refl
-    c.append_to.result c.append_to.ensures.same (c.append_to.ensures.appends (front journal.edition journal.generation payloads) doubt there counts)
-
-pub append_to-requires-in-B-clause-place : goal.append_to-requires-in-B-clause-place
-append_to-requires-in-B-clause-place g c = λ honest.
-    let D = g.D.Disk in
-    let store = c.args.store.now in
-    let journal = c.args.self.now in
-    let stands = c.requires.stands (subst (λ (s : Side). D.honest (counting s store)) (sym c.in-B.is) honest) in
-    place_at D.moment D.images journal B c.in-B.is store stands.0 stands.1 stands.2 (D.seen store.b) (g.met.D.Disk.seen_is_image store.b honest)
-
-pub returns-in-B-clause-full : goal.returns-in-B-clause-full
-returns-in-B-clause-full g c = record {
-  always = λ past. absurd (omega arith);
-  only = λ tail asked is. absurd (not_full c.append_to-in-B.result tail asked c.append_to-in-B.ensures.only_disk is);
-}
-
-pub returns-in-B-clause-any_moment : goal.returns-in-B-clause-any_moment
-returns-in-B-clause-any_moment g c = λ payloads doubt honest stands.
-    let D = g.D.Disk in
-    let store = c.args.store.now in
-    let journal = c.args.self.now in
-    let there = subst (λ (s : Side). D.honest (counting s store)) c.in-B.is honest in
-    let counts = counts_at D.moment D.images journal B c.in-B.is store payloads doubt stands in
-    crash_at D.moment D.images journal B c.in-B.is store payloads doubt stands c.append_to-in-B.new.self (with_b store c.append_to-in-B.new.disk) c.args.payload.now c.requires.edition c.requires.batch refl
-    (c.append_to-in-B.ensures.any_moment (front journal.edition journal.generation payloads) doubt there counts)
-
-pub returns-in-B-clause-doubt_closed : goal.returns-in-B-clause-doubt_closed
-returns-in-B-clause-doubt_closed g c = λ payloads doubt honest stands within.
-    let D = g.D.Disk in
-    let store = c.args.store.now in
-    let journal = c.args.self.now in
-    let there = subst (λ (s : Side). D.honest (counting s store)) c.in-B.is honest in
-    let counts = counts_at D.moment D.images journal B c.in-B.is store payloads doubt stands in
-    closes_at D.moment D.images journal B c.in-B.is store payloads doubt stands c.append_to-in-B.new.self (with_b store c.append_to-in-B.new.disk) c.args.payload.now c.requires.edition c.requires.batch refl
-    c.append_to-in-B.result c.append_to-in-B.ensures.same (c.append_to-in-B.ensures.closes_first (front journal.edition journal.generation payloads) doubt there counts)
-
-pub returns-in-B-clause-appended : goal.returns-in-B-clause-appended
-returns-in-B-clause-appended g c = λ payloads doubt honest stands.
-    let D = g.D.Disk in
-    let store = c.args.store.now in
-    let journal = c.args.self.now in
-    let there = subst (λ (s : Side). D.honest (counting s store)) c.in-B.is honest in
-    let counts = counts_at D.moment D.images journal B c.in-B.is store payloads doubt stands in
-    appended_at D.moment D.images journal B c.in-B.is store payloads doubt stands c.append_to-in-B.new.self (with_b store c.append_to-in-B.new.disk) c.args.payload.now c.requires.edition c.requires.batch refl
-    c.append_to-in-B.result c.append_to-in-B.ensures.same (c.append_to-in-B.ensures.appends (front journal.edition journal.generation payloads) doubt there counts)
+    let disk = ap (λ (s : Side). counting s c.close_beside.new.store) c.close_beside.ensures.same.side ∙ c.close_beside.ensures.untouched in
+    let honest1 = subst D.honest (sym disk) honest in
+    let settled = c.in_ok-close_beside.ensures.closes payloads newer beside stands in
+    inl (record {
+      closed = c.close_beside.new.self;
+      between = c.close_beside.new.store;
+      same = c.close_beside.ensures.same;
+      closing = c.close_beside.ensures.any_moment payloads newer beside stands;
+      stands = settled;
+      appending = c.append_counting.ensures.any_moment payloads None honest1 settled;
+      appended = c.append_counting.ensures.appended payloads None honest1 settled;
+    })

@@ -9,9 +9,9 @@ use std::alloc::Global;
 use std::test::Fail;
 use ws_model::{Event, Fate, How, Intent, Mode, NoMemory, What};
 
-const HISTORIES: usize = 200;
+const HISTORIES: usize = 300;
 
-const EVENTS: usize = 18;
+const EVENTS: usize = 40;
 
 /// A history as it grows.
 #[derive(Drop)]
@@ -38,15 +38,15 @@ impl History {
 
     // An event that may come next, where chance gives one.
     fn next(&mut self) -> Result<Option<What>, NoMemory> {
-        match self.chance.below(16) {
+        match self.chance.below(30) {
             0 | 1 | 2 => self.ask(),
-            3 | 4 | 5 => self.verify(),
-            6 => self.bar(),
-            7 => self.notice(),
-            8 => Ok(Some(pinged(self.alloc, self.topic())?)),
-            9 | 10 => self.fetch(),
-            11 => self.fetch_again(),
-            12 => self.revoke(),
+            3 | 4 | 5 | 6 | 7 | 8 => self.verify(),
+            9 => self.bar(),
+            10 | 11 => self.notice(),
+            12 | 13 => Ok(Some(pinged(self.alloc, self.topic())?)),
+            14 | 15 => self.fetch(),
+            16 => self.fetch_again(),
+            17 => self.revoke(),
             _ => self.push(),
         }
     }
@@ -65,14 +65,14 @@ impl History {
         let callback = CALLBACKS[self.chance.below(3) as usize];
         let granted = match self.chance.below(5) {
             0 => 0,
-            more => 60 * more as u32,
+            more => 200 * more as u32,
         };
         Ok(Some(asked(self.alloc, self.intents, topic, callback, granted)?))
     }
 
     fn verify(&mut self) -> Result<Option<What>, NoMemory> {
         let pending = ws_plain::pending(self.alloc, &self.events)?;
-        let Some(intent) = picked(&pending, self.chance.below(4)) else {
+        let Some(intent) = picked(&pending, &mut self.chance) else {
             return Ok(None);
         };
         let n = intent.n;
@@ -89,7 +89,7 @@ impl History {
 
     fn bar(&mut self) -> Result<Option<What>, NoMemory> {
         let pending = ws_plain::pending(self.alloc, &self.events)?;
-        let Some(intent) = picked(&pending, self.chance.below(4)) else {
+        let Some(intent) = picked(&pending, &mut self.chance) else {
             return Ok(None);
         };
         if intent.mode == Mode::Off {
@@ -105,7 +105,7 @@ impl History {
     fn notice(&mut self) -> Result<Option<What>, NoMemory> {
         let notices = ws_plain::notices(self.alloc, &self.events)?;
         let heard = self.chance.below(3) == 0;
-        match picked(&notices, self.chance.below(3)) {
+        match picked(&notices, &mut self.chance) {
             Some(intent) => Ok(Some(What::Noticed { n: intent.n, heard })),
             None => Ok(None),
         }
@@ -145,17 +145,23 @@ impl History {
         }))
     }
 
+    // Mostly of the first owed pair, so that some are spent.
     fn push(&mut self) -> Result<Option<What>, NoMemory> {
-        let lease = 1 + self.chance.below(self.intents.saturating_add(1));
-        let ver = 1 + self.chance.below(self.versions.saturating_add(1));
-        let how = match self.chance.below(8) {
+        let owed = owed(self)?;
+        let at = self.chance.below(owed.len() as u64 + 1);
+        let at = if self.chance.below(4) == 0 { at } else { 0 };
+        let how = match self.chance.below(12) {
             0 => How::Gone,
             1 => How::Done,
             _ => How::Missed(503),
         };
-        match ws_plain::fate(self.alloc, &self.events, ver, lease, self.t)? {
-            Some(Fate::Owed { .. }) => Ok(Some(What::Pushed { ver, lease, how })),
-            _ => Ok(None),
+        match owed.get(at as usize) {
+            Some((ver, lease)) => Ok(Some(What::Pushed {
+                ver: *ver,
+                lease: *lease,
+                how,
+            })),
+            None => Ok(None),
         }
     }
 
@@ -164,8 +170,8 @@ impl History {
             0 | 1 => 0,
             2 => 1,
             3 => 10,
-            4 => self.chance.below(60),
-            _ => self.chance.below(200),
+            4 => self.chance.below(30),
+            _ => self.chance.below(120),
         };
         self.t = self.t.saturating_add(seconds);
     }
@@ -186,8 +192,25 @@ impl History {
     }
 }
 
-fn picked(intents: &[Intent], at: u64) -> Option<&Intent> {
-    intents.get(at as usize)
+fn picked<'a>(intents: &'a [Intent], chance: &mut Chance) -> Option<&'a Intent> {
+    if intents.is_empty() {
+        return None;
+    }
+    intents.get(chance.below(intents.len() as u64) as usize)
+}
+
+// The owed pairs as versions and leases, which both count from 1.
+fn owed(history: &History) -> Result<Vec<(u64, u64)>, NoMemory> {
+    let mut owed = Vec::new(history.alloc);
+    for ver in 1..=history.versions {
+        for lease in 1..=history.intents {
+            let fate = ws_plain::fate(history.alloc, &history.events, ver, lease, history.t)?;
+            if matches!(fate, Some(Fate::Owed { .. })) {
+                owed.push((ver, lease))?;
+            }
+        }
+    }
+    Ok(owed)
 }
 
 // No pending intent of the same topic and callback has a lower number.
@@ -222,7 +245,7 @@ fn stands_beside(alloc: Global, seed: u64) -> Result<bool, NoMemory> {
                 return Ok(false);
             }
         }
-        if at % 6 == 5 && !agree_later(alloc, &tables, &history)? {
+        if at % 3 == 2 && !agree_later(alloc, &tables, &history)? {
             return Ok(false);
         }
     }
@@ -237,7 +260,7 @@ fn apply_last(tables: &mut Tables, events: &[Event]) -> Result<bool, NoMemory> {
 }
 
 fn agree_later(alloc: Global, tables: &Tables, history: &History) -> Result<bool, NoMemory> {
-    for seconds in [0, 45] {
+    for seconds in [0, 7, 45, 240] {
         let t = history.t.saturating_add(seconds);
         if !agrees(alloc, tables, &history.events, t)? {
             return Ok(false);

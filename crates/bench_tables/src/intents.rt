@@ -1,0 +1,76 @@
+// The table of intents.
+
+use crate::made::{held_verifications, intent, spread};
+use crate::{CALLS, row};
+use anyhow::Result;
+use std::alloc::Global;
+use std::rt::Clock;
+use std::time::Instant;
+use ws_intent::{Intents, Settle};
+use ws_model::{Held, NoMemory};
+
+// With the look-up that tells that its condition holds.
+fn fill(alloc: Global, table: &mut Intents, from: u64, to: u64) -> Result<(), NoMemory> {
+    for n in from..to {
+        match table.last() {
+            Some(last) => {
+                if last < n {
+                    table.asked(intent(alloc, n)?)?;
+                }
+            }
+            None => table.asked(intent(alloc, n)?)?,
+        }
+    }
+    Ok(())
+}
+
+fn missed(table: &mut Intents, size: u64) {
+    for at in 0..CALLS {
+        let _ = table.settle(spread(at, size), Settle::Unheard);
+    }
+}
+
+// The first numbers, one after the other.
+fn confirmed(table: &mut Intents) {
+    for n in 0..CALLS {
+        let _ = table.settle(n, Settle::Confirmed);
+    }
+}
+
+fn firsts(table: &Intents, size: u64) {
+    for at in 0..CALLS {
+        let _ = table.is_first(spread(at, size));
+    }
+}
+
+fn next_works(table: &Intents, held: &Held) {
+    for _ in 0..CALLS {
+        let _ = table.next_due(held);
+    }
+}
+
+/// Prints the time of each call.
+pub fn measure(rt: &(impl Clock + Print), alloc: Global, size: u64) -> Result<()> {
+    let mut table = Intents::empty(alloc);
+    fill(alloc, &mut table, 0, size)?;
+    let start = Instant::now(rt)?;
+    fill(alloc, &mut table, size, size.saturating_add(CALLS))?;
+    row(rt, size, "asked", start, CALLS)?;
+    let start = Instant::now(rt)?;
+    firsts(&table, size);
+    row(rt, size, "is_first", start, CALLS)?;
+    let none = Held::empty(alloc);
+    let start = Instant::now(rt)?;
+    next_works(&table, &none);
+    row(rt, size, "verify/next_due", start, CALLS)?;
+    let held = held_verifications(alloc)?;
+    let start = Instant::now(rt)?;
+    next_works(&table, &held);
+    row(rt, size, "verify/next_due/256", start, CALLS)?;
+    let start = Instant::now(rt)?;
+    missed(&mut table, size);
+    row(rt, size, "settle/unheard", start, CALLS)?;
+    let start = Instant::now(rt)?;
+    confirmed(&mut table);
+    row(rt, size, "settle/confirmed", start, CALLS)
+}

@@ -1,0 +1,100 @@
+// The table of topics: one to ten leases.
+
+use crate::made::{held_fetches, spread, topic, version};
+use crate::{CALLS, row};
+use anyhow::Result;
+use std::alloc::Global;
+use std::rt::Clock;
+use std::time::Instant;
+use ws_model::{Held, NoMemory};
+use ws_topic::Topics;
+
+fn pings(alloc: Global, table: &mut Topics, from: u64, to: u64) -> Result<(), NoMemory> {
+    for of in from..to {
+        table.pinged(topic(alloc, of)?.as_slice(), of)?;
+    }
+    Ok(())
+}
+
+// The version of a topic has the topic's number and so much more.
+fn fetches(
+    alloc: Global,
+    table: &mut Topics,
+    from: u64,
+    to: u64,
+    more: u64,
+) -> Result<(), NoMemory> {
+    for of in from..to {
+        let version = version(alloc, of.saturating_add(more), of)?;
+        if table.version(version.ver).is_none() {
+            table.fetched(version)?;
+        }
+    }
+    Ok(())
+}
+
+fn latest(alloc: Global, table: &Topics, size: u64) -> Result<(), NoMemory> {
+    for at in 0..CALLS {
+        let _ = table.latest(topic(alloc, spread(at, size))?.as_slice());
+    }
+    Ok(())
+}
+
+fn next_fetches(table: &Topics, held: &Held) {
+    for _ in 0..CALLS {
+        let _ = table.next_due(held);
+    }
+}
+
+fn missed(alloc: Global, table: &mut Topics, size: u64) -> Result<(), NoMemory> {
+    for at in 0..CALLS {
+        table.unfetched(topic(alloc, spread(at, size))?.as_slice(), 0);
+    }
+    Ok(())
+}
+
+fn answered(alloc: Global, table: &mut Topics, size: u64) -> Result<(), NoMemory> {
+    for at in 0..CALLS {
+        table.same(topic(alloc, spread(at, size))?.as_slice(), size);
+    }
+    Ok(())
+}
+
+// Each has a later version.
+fn forget(table: &mut Topics, from: u64) {
+    for at in 0..CALLS {
+        table.forget(from.saturating_add(at));
+    }
+}
+
+/// Prints the time of each call.
+pub fn measure(rt: &(impl Clock + Print), alloc: Global, size: u64) -> Result<()> {
+    let topics = size / 10;
+    let more = topics.saturating_add(CALLS);
+    let mut table = Topics::empty(alloc);
+    fetches(alloc, &mut table, 0, topics, 0)?;
+    pings(alloc, &mut table, 0, topics)?;
+    let start = Instant::now(rt)?;
+    fetches(alloc, &mut table, topics, more, 0)?;
+    row(rt, size, "fetched", start, CALLS)?;
+    let start = Instant::now(rt)?;
+    pings(alloc, &mut table, topics, more)?;
+    row(rt, size, "pinged", start, CALLS)?;
+    let start = Instant::now(rt)?;
+    latest(alloc, &table, topics)?;
+    row(rt, size, "latest", start, CALLS)?;
+    let held = held_fetches(alloc)?;
+    let start = Instant::now(rt)?;
+    next_fetches(&table, &held);
+    row(rt, size, "fetch/next_due/256", start, CALLS)?;
+    let start = Instant::now(rt)?;
+    missed(alloc, &mut table, topics)?;
+    row(rt, size, "unfetched", start, CALLS)?;
+    let start = Instant::now(rt)?;
+    answered(alloc, &mut table, topics)?;
+    row(rt, size, "same", start, CALLS)?;
+    fetches(alloc, &mut table, topics, more, more)?;
+    let start = Instant::now(rt)?;
+    forget(&mut table, topics);
+    row(rt, size, "forget", start, CALLS)
+}

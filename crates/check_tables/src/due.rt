@@ -1,0 +1,85 @@
+// The work that the tables give as due, beside what the plain program computes.
+
+use crate::tables::Tables;
+use std::alloc::Global;
+use ws_intent::Due;
+use ws_model::{Bytes, Event, Held, NoMemory, Work};
+
+/// Whether each table's first due work is the definitions', with the tickets of none, one, two and three
+/// of the due works out.
+pub fn due_agrees(
+    alloc: Global,
+    tables: &Tables,
+    events: &[Event],
+    t: u64,
+) -> Result<bool, NoMemory> {
+    let works = ws_plain::due(alloc, events, t, &[])?;
+    let mut held = Held::empty(alloc);
+    for work in works.iter().take(3) {
+        let left = ws_plain::due(alloc, events, t, held.as_slice())?;
+        if !firsts_agree(tables, &left, &held, t) {
+            return Ok(false);
+        }
+        held.push(copy(alloc, work)?)?;
+    }
+    let left = ws_plain::due(alloc, events, t, held.as_slice())?;
+    Ok(firsts_agree(tables, &left, &held, t))
+}
+
+fn copy(alloc: Global, work: &Work) -> Result<Work, NoMemory> {
+    match work {
+        Work::Verify { n } => Ok(Work::Verify { n: *n }),
+        Work::Notice { n } => Ok(Work::Notice { n: *n }),
+        Work::Fetch { topic, upto } => Ok(Work::Fetch {
+            topic: Bytes::copy(alloc, topic.as_slice())?,
+            upto: *upto,
+        }),
+        Work::Push { ver, lease } => Ok(Work::Push {
+            ver: *ver,
+            lease: *lease,
+        }),
+    }
+}
+
+fn firsts_agree(tables: &Tables, left: &[Work], held: &Held, t: u64) -> bool {
+    first_of_intents(left) == tables.intents.next_due(held)
+        && first_push(left) == tables.deliveries.next_due(t, held)
+        && fetch_agrees(tables, left, held)
+}
+
+fn first_of_intents(works: &[Work]) -> Option<Due> {
+    for work in works {
+        match work {
+            Work::Verify { n } => return Some(Due::Verify(*n)),
+            Work::Notice { n } => return Some(Due::Notice(*n)),
+            _ => {}
+        }
+    }
+    None
+}
+
+fn first_push(works: &[Work]) -> Option<(u64, u64)> {
+    for work in works {
+        if let Work::Push { ver, lease } = work {
+            return Some((*ver, *lease));
+        }
+    }
+    None
+}
+
+fn first_fetch(works: &[Work]) -> Option<&[u8]> {
+    for work in works {
+        if let Work::Fetch { topic, .. } = work {
+            return Some(topic.as_slice());
+        }
+    }
+    None
+}
+
+fn fetch_agrees(tables: &Tables, left: &[Work], held: &Held) -> bool {
+    match (first_fetch(left), tables.topics.next_due(held)) {
+        (Some(topic), Some(key)) => topic == key.as_slice(),
+        (None, None) => true,
+        _ => false,
+    }
+}

@@ -1,5 +1,5 @@
 -- What one call of the link makes of an exchange.
-use Rattle.std.proofs.Common.{◌≡◌, ℕ, ◌+◌, ◌≤◌, Bool, true, false, List, [], ◌++◌, length, take, drop, IfSome, refl, sym, ◌∙◌, ap, subst, arith, append-nil, length-drop}
+use Rattle.std.proofs.Common.{◌≡◌, ℕ, ◌+◌, ◌≤◌, Bool, true, false, List, [], ◌++◌, length, take, drop, IfSome, refl, sym, ◌∙◌, subst, arith, append-nil, length-drop}
 use Rattle.std.specs.Prelude.{Option}
 use Rattle.ws_http.specs.declared.fed.Need.{Need}
 use Rattle.ws_http.specs.ResponseStages.{ReplyReading, Stands}

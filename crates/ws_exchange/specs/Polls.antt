@@ -1,6 +1,5 @@
 -- What an exchange is, and what each poll of it does (own; what it got is by RFC 9112).
-use Rattle.std.specs.Prelude.{◌≡◌, ℕ, ◌+◌, ◌<◌, ◌≤◌, Bool, true, false, List, [], ◌∷◌, length, take, drop, Option, IfSome, ⊤}
-use Rattle.std.specs.Coded.{Coded}
+use Rattle.std.specs.Prelude.{◌≡◌, ℕ, ◌+◌, ◌<◌, ◌≤◌, Bool, true, false, List, length, take, drop, Option, IfSome, ⊤}
 use Rattle.ws_model.specs.Fit.{is_fit}
 use Rattle.ws_model.specs.declared.work.Outcome.{Outcome}
 use Rattle.ws_model.specs.declared.work.Outcome.TheVariants as outcome

@@ -1,8 +1,7 @@
 -- What an answer of the reader of responses says of the bytes.
-use Rattle.std.proofs.Common.{◌≡◌, ℕ, Bool, true, false, if◌then◌else◌, List, ◌++◌, length, refl, sym, ◌∙◌, ap, subst}
+use Rattle.std.proofs.Common.{◌≡◌, ℕ, Bool, true, false, List, ◌++◌, length, refl, sym, ◌∙◌, ap, subst}
 use Rattle.ws_model.specs.Fit.{is_fit, is_fit_reply}
 use Rattle.ws_model.specs.declared.reply.Reply.{Reply}
-use Rattle.ws_model.specs.declared.work.Outcome.{Outcome}
 use Rattle.ws_model.specs.declared.work.Outcome.TheVariants as outcome
 use Rattle.ws_http.specs.declared.fed.BadWhy.{BadWhy}
 use Rattle.ws_http.specs.declared.fed.BadWhy.TheVariants as why
@@ -11,7 +10,7 @@ use Rattle.ws_http.specs.declared.fed.Fed.TheVariants as fed
 use Rattle.ws_http.specs.declared.fed.Need.{Need}
 use Rattle.ws_http.specs.declared.reply_stage.ReplyStage.{ReplyStage}
 use Rattle.ws_http.specs.declared.reply_stage.ReplyStage.TheVariants as stage
-use Rattle.ws_http.specs.Responses.{Verdict, unfinished, headed, lasting, whole, bad, IsResponse, Got, Makes, is_final, closed, at_end, fault_outcome}
+use Rattle.ws_http.specs.Responses.{Verdict, bad, Got, Makes, is_final, closed, fault_outcome}
 use Rattle.ws_http.specs.ResponseStages.{ReplyReading, FeedsReply, Stands, Says, is_last, is_starved, is_whole, said, said_first, untold}
 use Rattle.ws_exchange.specs.Ends.{GoesOn, Ends, is_lost, is_late}
 use Rattle.ws_exchange.proofs.Uncut.{is_cut, uncut}

@@ -1,5 +1,5 @@
 -- What one call of the link makes of an exchange.
-use Rattle.std.proofs.Common.{◌≡◌, ℕ, ◌+◌, ◌≤◌, Bool, true, false, List, [], ◌++◌, length, take, drop, IfSome, refl, sym, ◌∙◌, ap, subst, arith, append-nil, length-drop}
+use Rattle.std.proofs.Common.{◌≡◌, ℕ, ◌+◌, ◌≤◌, Bool, true, false, List, [], ◌++◌, length, take, drop, IfSome, refl, sym, ◌∙◌, subst, arith, append-nil, length-drop}
 use Rattle.std.specs.Prelude.{Option}
 use Rattle.ws_http.specs.declared.fed.Need.{Need}
 use Rattle.ws_http.specs.ResponseStages.{ReplyReading, Stands}
@@ -85,13 +85,13 @@ given_ends need bytes ended o told given ends =
 comes_took : (need : Need) (bytes : List ℕ) (n : ℕ) (h : Heard) (told : Option LinkContent)
     → IfSome told (λ (c : LinkContent). c.given ≡ bytes) → Hears need bytes false h → ComesBy need told (step.Took n) (polled_after h)
 comes_took need bytes n (heard.More next) told given hears = given_goes need bytes told given hears.4
-comes_took need bytes n (heard.Ended o) told given hears = given_ends need bytes false o told given hears
+comes_took need bytes n (heard.Ended o) told given hears = (hears.in_time, hears.lost refl, given_ends need bytes false o told given hears)
 comes_took need bytes n heard.NoMemory told given hears = tt
 
 comes_ended : (need : Need) (bytes : List ℕ) (h : Heard) (told : Option LinkContent)
     → IfSome told (λ (c : LinkContent). c.given ≡ bytes) → Hears need bytes true h → ComesBy need told step.End (polled_after h)
 comes_ended need bytes (heard.More next) told given hears = let e : true ≡ false = hears.3 in cc
-comes_ended need bytes (heard.Ended o) told given hears = given_ends need bytes true o told given hears
+comes_ended need bytes (heard.Ended o) told given hears = (hears.in_time, given_ends need bytes true o told given hears)
 comes_ended need bytes heard.NoMemory told given hears = tt
 
 pub heard_fit : (need : Need) (bytes : List ℕ) (ended : Bool) (h : Heard) → Hears need bytes ended h → IsFit (polled_after h)

@@ -10,8 +10,8 @@ use Rattle.ws_http.specs.declared.extent.Extent.{Extent}
 use Rattle.ws_http.specs.declared.extent.Extent.TheVariants as extent
 use Rattle.ws_http.specs.declared.chunk.Next.{Next}
 use Rattle.ws_http.specs.declared.chunk.Next.TheVariants as next
-use Rattle.ws_http.specs.Chunks.{Chunk, chunk_data, LineNext}
-use Rattle.ws_http.specs.Responses.{Verdict, unfinished, headed, lasting, whole, bad, Front, partial, wrong, final, IsResponse, FrontSays, FinalSays, BodySays, ChunkedSays, ChunksEnd, is_over, print_heads}
+use Rattle.ws_http.specs.Chunks.{Chunk, LineNext}
+use Rattle.ws_http.specs.Responses.{Verdict, unfinished, headed, lasting, whole, bad, Front, partial, wrong, final, IsResponse, FrontSays, FinalSays, BodySays, ChunksEnd, print_heads}
 
 abbrev pub is_cut : Verdict → Bool
 is_cut unfinished = false

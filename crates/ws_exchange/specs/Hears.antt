@@ -1,5 +1,5 @@
 -- What a reader hears in a piece of the reply (own).
-use Rattle.std.specs.Prelude.{◌≡◌, ℕ, Bool, true, false, List, ⊤}
+use Rattle.std.specs.Prelude.{◌≡◌, ℕ, Bool, false, List, ⊤}
 use Rattle.ws_http.specs.declared.fed.Need.{Need}
 use Rattle.ws_http.specs.ResponseStages.{ReplyReading, Stands, is_last}
 use Rattle.ws_exchange.specs.Ends.{GoesOn, Ends}

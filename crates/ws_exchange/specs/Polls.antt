@@ -1,6 +1,5 @@
 -- What an exchange is, and what each poll of it does (own; what it got is by RFC 9112).
-use Rattle.std.specs.Prelude.{◌≡◌, ℕ, ◌+◌, ◌<◌, ◌≤◌, Bool, true, false, List, [], ◌∷◌, length, take, drop, Option, IfSome, ⊤}
-use Rattle.std.specs.Coded.{Coded}
+use Rattle.std.specs.Prelude.{◌≡◌, ℕ, ◌+◌, ◌<◌, ◌≤◌, Bool, true, false, List, length, take, drop, Option, IfSome, ⊤}
 use Rattle.ws_model.specs.Fit.{is_fit}
 use Rattle.ws_model.specs.declared.work.Outcome.{Outcome}
 use Rattle.ws_model.specs.declared.work.Outcome.TheVariants as outcome
@@ -16,7 +15,7 @@ use Rattle.ws_exchange.specs.declared.polls.Stage.{Stage}
 use Rattle.ws_exchange.specs.declared.polls.Stage.TheVariants as stage
 use Rattle.ws_exchange.specs.declared.polls.Polled.{Polled}
 use Rattle.ws_exchange.specs.declared.polls.Polled.TheVariants as polled
-use Rattle.ws_exchange.specs.Ends.{GoesOn, Ends}
+use Rattle.ws_exchange.specs.Ends.{GoesOn, Ends, is_lost, is_late}
 
 -- What callers see of an exchange: its link, the bytes to send and how many of them were sent, how much
 -- of the reply is asked for, when it is late, the time that it was told, and how far it is.
@@ -84,10 +83,12 @@ moved step.NotYet = 0
 moved step.Failed = 0
 
 -- The exchange ends by a step of its link: Lost where it failed; else by all bytes that the link gave,
--- with its end where this step met it.
+-- with its end where this step met it. Also over a link that tells nothing it isn't Late before the time
+-- has come, and Lost only where the link failed or ended.
 abbrev pub EndsBy : Need → Option LinkContent → Step → Outcome → Type 0
-EndsBy need told (step.Took n) o = IfSome told (λ (c : LinkContent). Ends need c.given false o)
-EndsBy need told step.End o = IfSome told (λ (c : LinkContent). Ends need c.given true o)
+EndsBy need told (step.Took n) o =
+    (is_late o ≡ false) × (is_lost o ≡ false) × IfSome told (λ (c : LinkContent). Ends need c.given false o)
+EndsBy need told step.End o = (is_late o ≡ false) × IfSome told (λ (c : LinkContent). Ends need c.given true o)
 EndsBy need told step.NotYet o = ⊥
 EndsBy need told step.Failed o = o ≡ outcome.Lost
 

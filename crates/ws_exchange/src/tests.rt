@@ -1,5 +1,5 @@
 // Expected outcomes are worked out by hand from the rules of responses.
-ghost use Rattle.std.specs.Prelude.{◌≡◌, false, IfOk, Some};
+ghost use Rattle.std.specs.Prelude.{◌≡◌, false, IfOk, Some, None, ⊤};
 ghost use Rattle.ws_link.specs.Links.{IsUntouched};
 ghost use Rattle.ws_link.specs.MemoryLinks.{link_content};
 ghost use Rattle.ws_exchange.specs.Polls.{is_over};
@@ -8,7 +8,7 @@ use super::*;
 use std::alloc::Global;
 use std::test::Fail;
 use ws_http::Need;
-use ws_link::MemLink;
+use ws_link::{Link, LinkCounts, MemLink, Step};
 use ws_model::{Bytes, NoMemory, Outcome, Reply};
 
 // An exchange of three bytes over a link, late at 30.
@@ -23,8 +23,40 @@ fn exchange(alloc: Global, link: MemLink, need: Need) -> Result<Exchange<MemLink
     }
 }
 
+// A link that takes at most so many bytes at each poll, and gives none.
+#[derive(Drop)]
+struct SlowLink {
+    most: usize,
+    counts: LinkCounts,
+}
+
+impl Link for SlowLink {
+    ghost content = { λ _. None };
+
+    ghost counts = { λ link. link.counts };
+
+    ghost send_gives = { λ _ _ _ _. ⊤ };
+
+    ghost take_gives = { λ _ _ _ _. ⊤ };
+
+    fn poll_send(&mut self, bytes: &[u8]) -> Step {
+        self.counts.ask();
+        if self.most == 0 {
+            self.counts.wait();
+            return Step::NotYet;
+        }
+        Step::Took(self.most.min(bytes.len()))
+    }
+
+    fn poll_take(&mut self, _into: &mut [u8]) -> Step {
+        self.counts.ask();
+        self.counts.wait();
+        Step::NotYet
+    }
+}
+
 // What an exchange comes to by so many polls.
-fn polled(exchange: &mut Exchange<MemLink>, most: u32) -> Polled
+fn polled<L: Link + Drop>(exchange: &mut Exchange<L>, most: u32) -> Polled
     requires { is_over exchange.old.stage ≡ false }
 {
     'polls: for _ in 0..most {
@@ -90,6 +122,30 @@ fn body_up_to_the_end(rt: HostRuntime) -> Result<(), Fail> {
     Ok(())
 }
 
+// Ten bytes of a head, a body cut short, and a head whose body isn't asked for.
+#[test]
+fn link_ends_early_is_lost(rt: HostRuntime) -> Result<(), Fail> {
+    let alloc = rt.alloc();
+    let short = b"HTTP/1.1 200 OK\r\nContent-Length: 9\r\n\r\nabc";
+    for (bytes, need, lost) in [
+        (b"HTTP/1.1 2".as_slice(), Need::Status, true),
+        (b"HTTP/1.1 2".as_slice(), Need::Full, true),
+        (b"".as_slice(), Need::Short, true),
+        (short.as_slice(), Need::Full, true),
+        (short.as_slice(), Need::Short, true),
+        (short.as_slice(), Need::Status, false),
+    ] {
+        let got = outcome(alloc, bytes, true, &[], &[], need)?;
+        assert_eq!(rt;
+            matches!(got, Some(Outcome::Lost)),
+            lost,
+            "{} bytes",
+            bytes.len()
+        );
+    }
+    Ok(())
+}
+
 #[test]
 fn hostile_replies(rt: HostRuntime) -> Result<(), Fail> {
     let alloc = rt.alloc();
@@ -103,7 +159,6 @@ fn hostile_replies(rt: HostRuntime) -> Result<(), Fail> {
         (b"XYZ\n".as_slice(), Need::Status, Outcome::Garbled),
         (interims.as_slice(), Need::Status, Outcome::TooLong),
         (b"HTTP/1.1 ".as_slice(), Need::Status, Outcome::Lost),
-        (b"HTTP/1.1 2".as_slice(), Need::Full, Outcome::Lost),
         (long.as_slice(), Need::Full, Outcome::TooLong),
     ] {
         let got = outcome(alloc, bytes, true, &[], &[], need)?;
@@ -135,4 +190,55 @@ fn late_at_until(rt: HostRuntime) -> Result<(), Fail> {
         assert_eq!(rt; exchange.link().sent(), sent, "at {now}");
     }
     Ok(())
+}
+
+// Three bytes are sent by polls of their own; the counts tell which polls sent and which took.
+#[test]
+fn one_call_at_each_poll(rt: HostRuntime) -> Result<(), Fail> {
+    let alloc = rt.alloc();
+    for (most, waits) in [(0, 5), (1, 2), (2, 3), (3, 4)] {
+        let link = SlowLink {
+            most,
+            counts: LinkCounts::none(),
+        };
+        match Exchange::made(alloc, link, Bytes::copy(alloc, b"ask")?, Need::Status, 30) {
+            Ok(mut exchange) => {
+                let last = polled(&mut exchange, 5);
+                assert!(rt; matches!(last, Polled::Pending));
+                let counts = LinkCounts {
+                    faults: 0,
+                    waits,
+                    asks: 5,
+                };
+                assert_eq!(rt; exchange.link().counts, counts, "{most} at each poll");
+            }
+            Err(_) => return Err(Fail::from(NoMemory)),
+        }
+    }
+    Ok(())
+}
+
+#[test]
+fn link_that_takes_nothing_at_until(rt: HostRuntime) -> Result<(), Fail> {
+    let alloc = rt.alloc();
+    let link = SlowLink {
+        most: 0,
+        counts: LinkCounts::none(),
+    };
+    match Exchange::made(alloc, link, Bytes::copy(alloc, b"ask")?, Need::Status, 30) {
+        Ok(mut exchange) => {
+            exchange.set_now(29);
+            match exchange.poll() {
+                Polled::Pending => {
+                    exchange.set_now(30);
+                    let last = exchange.poll();
+                    assert!(rt; matches!(last, Polled::Ended(Outcome::Late)));
+                    assert_eq!(rt; exchange.link().counts.asks, 1, "late without a call");
+                }
+                _ => assert!(rt; false, "at 29"),
+            }
+            Ok(())
+        }
+        Err(_) => Err(Fail::from(NoMemory)),
+    }
 }

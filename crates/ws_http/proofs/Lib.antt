@@ -19,3 +19,4 @@ pub mod UniqueLemmas
 pub mod OneReplyLemmas
 pub mod OneRequestLemmas
 pub mod ReadBackLemmas
+pub mod PhraseLemmas

@@ -2,6 +2,7 @@
 #![tactic(auto)]
 
 mod chunk;
+mod code;
 mod extent;
 mod fed;
 mod head;

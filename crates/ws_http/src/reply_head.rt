@@ -4,6 +4,7 @@ ghost use Rattle.ws_http.specs.ResponseHeads.{SeesReply, IsAhead};
 ghost use Rattle.ws_http.specs.ResponseStages.{HasInterims};
 ghost use Rattle.ws_http.specs.ResponseHeadsEnd.{IsHeadsEnd};
 
+use crate::code::{is_code, is_interim};
 use crate::extent::{Extent, extent_of};
 use crate::head::{MAX_FIELDS, MAX_HEAD};
 use httparse::spans::{HeaderSpan, ResponseSpans, parse_response};
@@ -47,9 +48,9 @@ fn judge_spans(front: &[u8], headers: &[HeaderSpan], spans: ResponseSpans) -> Ah
     requires { SeesReply front.now headers.now (SeenReply.Head spans) }
     ensures { IsAhead front.now result }
 {
-    if spans.code < 100 {
+    if !is_code(spans.code) {
         Ahead::Wrong
-    } else if spans.code < 200 {
+    } else if is_interim(spans.code) {
         Ahead::Interim(spans.len)
     } else {
         let extent = extent_of(spans.code, front, &headers[..spans.headers]);

@@ -1,3 +1,4 @@
+use crate::tests::padded;
 use crate::{BadWhy, Fed, Need, ResponseReader};
 use std::process::Abort;
 use std::test::Fail;
@@ -301,55 +302,94 @@ fn responses_in_any_pieces(rt: HostRuntime) -> Result<(), Fail> {
     Ok(())
 }
 
-// The heads of 16,384 bytes, the body of 4,194,304 and the chunked body of 8,388,608 at their limits, and one byte more.
+// The heads have at most 16,384 bytes together: two heads of which the first is an interim one.
 #[test]
-fn responses_at_their_limits(rt: HostRuntime) -> Result<(), Fail> {
-    // interim heads without an end: 25 bytes of the first
-    let mut open = b"HTTP/1.1 100 Continue\r\n\r\nHTTP/1.1 103 Early Hints\r\nLink: ".to_vec(
-        rt.alloc(),
-    )?;
-    open.resize(16_384, b'x')?;
-    let mut long = open.clone()?;
-    long.push(b'x')?;
-    // a head of 19 bytes, and a body up to the end
-    let mut body = b"HTTP/1.1 200 OK\r\n\r\n".to_vec(rt.alloc())?;
-    body.resize(19 + 4_194_304, b'x')?;
-    let mut past = body.clone()?;
-    past.push(b'x')?;
-    // 47 bytes of head; a chunk of 0x400000 = 4,194,304 bytes, and one of 4,194,305
-    let mut data = b"HTTP/1.1 200 OK\r\nTransfer-Encoding: chunked\r\n\r\n400000\r\n".to_vec(
-        rt.alloc(),
-    )?;
-    data.resize(55 + 4_194_304, b'x')?;
-    data.extend_from_slice(b"\r\n0\r\n\r\n")?;
-    let mut heavy = b"HTTP/1.1 200 OK\r\nTransfer-Encoding: chunked\r\n\r\n400001\r\n".to_vec(
-        rt.alloc(),
-    )?;
-    heavy.resize(55 + 4_194_305, b'x')?;
-    // 47 bytes of head; 2 of a chunk's line, its extension, 2 + 1 + 2 of its end, and 5 of the last chunk
-    let mut raw = b"HTTP/1.1 200 OK\r\nTransfer-Encoding: chunked\r\n\r\n1;".to_vec(rt.alloc())?;
-    raw.resize(47 + 8_388_598, b'x')?;
-    raw.extend_from_slice(b"\r\na\r\n0\r\n\r\n")?;
-    let mut over = b"HTTP/1.1 200 OK\r\nTransfer-Encoding: chunked\r\n\r\n1;".to_vec(rt.alloc())?;
-    over.resize(47 + 8_388_599, b'x')?;
-    over.extend_from_slice(b"\r\na\r\n0\r\n\r\n")?;
-    let table: [(Need, &[u8], bool, Fed); 9] = [
-        (Need::Status, &open, false, Fed::More),
-        (Need::Status, &long, false, bad(BadWhy::TooLong)),
-        (Need::Full, &long, true, bad(BadWhy::TooLong)),
-        (Need::Full, &body, true, Fed::Whole { used: 4_194_323 }),
-        (Need::Short, &past, true, bad(BadWhy::TooLong)),
-        (Need::Full, &data, false, Fed::Whole { used: 4_194_366 }),
-        (Need::Short, &heavy, false, bad(BadWhy::TooLong)),
-        (Need::Short, &raw, false, Fed::Whole { used: 8_388_655 }),
-        (Need::Full, &over, false, bad(BadWhy::TooLong)),
+fn response_heads_at_their_limit(rt: HostRuntime) -> Result<(), Fail> {
+    let front = b"HTTP/1.1 100 Continue\r\n\r\nHTTP/1.1 204 No Content\r\nLink: ";
+    let table: [(usize, &[u8], Fed); 6] = [
+        // without an end
+        (16_384, b"", Fed::More),
+        (16_385, b"", bad(BadWhy::TooLong)),
+        // the end is the last byte, and comes one byte later
+        (16_380, b"\r\n\r\n", Fed::Whole { used: 16_384 }),
+        (16_381, b"\r\n\r\n", bad(BadWhy::TooLong)),
+        // a byte that no field has is the last one, and comes one byte later
+        (16_383, b"\x01", bad(BadWhy::Head)),
+        (16_384, b"\x01", bad(BadWhy::TooLong)),
     ];
-    for (need, bytes, ended, answer) in table.iter() {
-        for size in [1_000_000, 10_000_000] {
-            let mut reader = ResponseReader::made(rt.alloc(), *need)?;
-            assert_eq!(rt; fed(&rt, &mut reader, bytes, size, *ended), *answer);
+    for (len, back, answer) in table.iter() {
+        let text = padded(rt.alloc(), front, *len, back)?;
+        for need in [Need::Status, Need::Short, Need::Full] {
+            for size in [1000, 20_000] {
+                let mut reader = ResponseReader::made(rt.alloc(), need)?;
+                let said = fed(&rt, &mut reader, &text, size, false);
+                assert_eq!(rt; said, *answer, "{} bytes", text.len());
+            }
         }
     }
+    Ok(())
+}
+
+// What a reader says of bytes `x` between a front and a back, up to a length, whole and in large pieces.
+fn said(
+    rt: &(impl Abort + AllocGlobal),
+    need: Need,
+    front: &[u8],
+    len: usize,
+    back: &[u8],
+) -> Result<Fed, Fail> {
+    let text = padded(rt.alloc(), front, len, back)?;
+    let mut whole = ResponseReader::made(rt.alloc(), need)?;
+    let answer = fed(rt, &mut whole, &text, text.len(), true);
+    let mut pieced = ResponseReader::made(rt.alloc(), need)?;
+    assert_eq!(rt; fed(rt, &mut pieced, &text, 1_000_000, true), answer);
+    Ok(answer)
+}
+
+// A body of 4,194,304 bytes, and one byte more, behind heads of 19 and 47 bytes.
+#[test]
+fn response_bodies_at_their_limit(rt: HostRuntime) -> Result<(), Fail> {
+    let lasting = b"HTTP/1.1 200 OK\r\n\r\n";
+    let at = said(&rt, Need::Full, lasting, 19 + 4_194_304, b"")?;
+    assert_eq!(rt; at, Fed::Whole { used: 4_194_323 });
+    let over = said(&rt, Need::Short, lasting, 19 + 4_194_305, b"")?;
+    assert_eq!(rt; over, bad(BadWhy::TooLong));
+    // 0x400000 = 4,194,304; 8 bytes of the chunk's line, 7 behind its data
+    let data = b"HTTP/1.1 200 OK\r\nTransfer-Encoding: chunked\r\n\r\n400000\r\n";
+    let at = said(&rt, Need::Full, data, 55 + 4_194_304, b"\r\n0\r\n\r\n")?;
+    assert_eq!(rt; at, Fed::Whole { used: 4_194_366 });
+    let heavy = b"HTTP/1.1 200 OK\r\nTransfer-Encoding: chunked\r\n\r\n400001\r\n";
+    let over = said(&rt, Need::Short, heavy, 55 + 4_194_305, b"")?;
+    assert_eq!(rt; over, bad(BadWhy::TooLong));
+    Ok(())
+}
+
+// A chunked body of 8,388,608 bytes with its lines, and one byte more, behind a head of 47 bytes.
+#[test]
+fn chunked_responses_at_their_limit(rt: HostRuntime) -> Result<(), Fail> {
+    let line = b"HTTP/1.1 200 OK\r\nTransfer-Encoding: chunked\r\n\r\n1;";
+    // 10 bytes behind the line's extension
+    let last = b"\r\na\r\n0\r\n\r\n";
+    let at = said(&rt, Need::Short, line, 47 + 8_388_598, last)?;
+    assert_eq!(rt; at, Fed::Whole { used: 8_388_655 });
+    let over = said(&rt, Need::Full, line, 47 + 8_388_599, last)?;
+    assert_eq!(rt; over, bad(BadWhy::TooLong));
+    // what can't be a chunk's end is the last byte, and comes one byte later
+    let wrong = said(&rt, Need::Full, line, 47 + 8_388_604, b"\r\nab")?;
+    assert_eq!(rt; wrong, bad(BadWhy::Chunk));
+    let later = said(&rt, Need::Short, line, 47 + 8_388_605, b"\r\nab")?;
+    assert_eq!(rt; later, bad(BadWhy::TooLong));
+    Ok(())
+}
+
+// Trailers have at most 16,384 bytes behind the last chunk's line, which begins behind 47 bytes of head.
+#[test]
+fn response_trailers_at_their_limit(rt: HostRuntime) -> Result<(), Fail> {
+    let trailer = b"HTTP/1.1 200 OK\r\nTransfer-Encoding: chunked\r\n\r\n0\r\nT: ";
+    let at = said(&rt, Need::Full, trailer, 50 + 16_380, b"\r\n\r\n")?;
+    assert_eq!(rt; at, Fed::Whole { used: 16_434 });
+    let over = said(&rt, Need::Short, trailer, 50 + 16_381, b"\r\n\r\n")?;
+    assert_eq!(rt; over, bad(BadWhy::Chunk));
     Ok(())
 }
 

@@ -1,4 +1,7 @@
+ghost use Rattle.std.specs.Prelude.{◌≤◌};
+
 use crate::{BadWhy, Fed, RequestReader, no_memory_answer, write_request, write_response};
+use std::alloc::Global;
 use std::process::Abort;
 use std::test::Fail;
 use ws_model::{Bytes, Pair};
@@ -32,10 +35,18 @@ fn request_written(rt: HostRuntime) -> Result<(), Fail> {
     Ok(())
 }
 
-// Feeds a request in pieces of a size, and gives the first answer that is neither More nor Head, and
-// how often Head came; the used bytes are counted from the start.
-fn fed(rt: &(impl Abort + AllocGlobal), bytes: &[u8], size: usize) -> Result<(Fed, u64), Fail> {
-    let mut reader = RequestReader::made(rt.alloc())?;
+// Feeds a request in pieces of a size to a reader of this room, and gives the first answer that is
+// neither More nor Head, and how often Head came; the used bytes are counted from the start.
+fn fed(
+    rt: &(impl Abort + AllocGlobal),
+    room: u32,
+    bytes: &[u8],
+    size: usize,
+) -> Result<(Fed, u64), Fail>
+    requires least { 16384 ≤ room }
+    requires most { room ≤ 4210688 }
+{
+    let mut reader = RequestReader::made_for(rt.alloc(), room)?;
     let mut heads: u64 = 0;
     let mut before: u64 = 0;
     for piece in bytes.chunks(size.max(1)) {
@@ -223,7 +234,7 @@ fn requests_in_any_pieces(rt: HostRuntime) -> Result<(), Fail> {
     ];
     for (bytes, answer) in table.iter() {
         for size in [1, 7, 100_000] {
-            let (said, heads) = fed(&rt, bytes, size)?;
+            let (said, heads) = fed(&rt, 16_384, bytes, size)?;
             assert_eq!(rt; said, *answer, "{bytes:?} in pieces of {size}");
             assert!(rt; heads <= 1);
         }
@@ -231,44 +242,108 @@ fn requests_in_any_pieces(rt: HostRuntime) -> Result<(), Fail> {
     Ok(())
 }
 
-// A body or a chunk's data that fills a message up to its limit of 16,384 bytes, and one byte more.
+// Bytes `x` behind the front up to a length, and then the back.
+pub fn padded(alloc: Global, front: &[u8], len: usize, back: &[u8]) -> Result<Vec<u8>, Fail> {
+    let mut text = front.to_vec(alloc)?;
+    text.resize(len, b'x')?;
+    text.extend_from_slice(back)?;
+    Ok(text)
+}
+
+// A head has at most 16,384 bytes, also in a larger room.
 #[test]
-fn requests_at_their_limits(rt: HostRuntime) -> Result<(), Fail> {
-    // a head of 51 bytes, so that 16,333 are left
-    let head = b"POST / HTTP/1.1\r\nHost: a\r\nContent-Length: 16333\r\n\r\n";
-    let mut at = head.to_vec(rt.alloc())?;
-    at.resize(16_384, b'x')?;
-    let mut over = b"POST / HTTP/1.1\r\nHost: a\r\nContent-Length: 16334\r\n\r\n".to_vec(
-        rt.alloc(),
-    )?;
-    over.resize(16_385, b'x')?;
-    // a head without an end
-    let mut open = b"GET / HTTP/1.1\r\nHost: ".to_vec(rt.alloc())?;
-    open.resize(16_384, b'x')?;
-    let mut long = open.clone()?;
-    long.push(b'x')?;
-    // 56 bytes of head, 6 of the chunk's line, 16,315 = 0x3fbb of data, 2 of its end, 5 of the last chunk
-    let mut chunked =
-        b"POST / HTTP/1.1\r\nHost: a\r\nTransfer-Encoding: chunked\r\n\r\n3fbb\r\n".to_vec(
-            rt.alloc(),
-        )?;
-    chunked.resize(62 + 16_315, b'x')?;
-    chunked.extend_from_slice(b"\r\n0\r\n\r\n")?;
-    let mut endless =
-        b"POST / HTTP/1.1\r\nHost: a\r\nTransfer-Encoding: chunked\r\n\r\nffff\r\n".to_vec(
-            rt.alloc(),
-        )?;
-    endless.resize(16_384, b'x')?;
-    let mut past = endless.clone()?;
-    past.push(b'x')?;
-    for size in [1000, 16_384, 20_000] {
-        assert_eq!(rt; fed(&rt, &at, size)?.0, Fed::Whole { used: 16_384 });
-        assert_eq!(rt; fed(&rt, &over, size)?.0, bad(BadWhy::TooLong));
-        assert_eq!(rt; fed(&rt, &open, size)?.0, Fed::More);
-        assert_eq!(rt; fed(&rt, &long, size)?.0, bad(BadWhy::TooLong));
-        assert_eq!(rt; fed(&rt, &chunked, size)?.0, Fed::Whole { used: 16_384 });
-        assert_eq!(rt; fed(&rt, &endless, size)?.0, Fed::More);
-        assert_eq!(rt; fed(&rt, &past, size)?.0, bad(BadWhy::TooLong));
+fn request_heads_at_their_limit(rt: HostRuntime) -> Result<(), Fail> {
+    let front = b"GET / HTTP/1.1\r\nHost: ";
+    let table: [(usize, &[u8], Fed); 6] = [
+        // without an end
+        (16_384, b"", Fed::More),
+        (16_385, b"", bad(BadWhy::TooLong)),
+        // the end is the last byte, and comes one byte later
+        (16_380, b"\r\n\r\n", Fed::Whole { used: 16_384 }),
+        (16_381, b"\r\n\r\n", bad(BadWhy::TooLong)),
+        // a byte that no field has is the last one, and comes one byte later
+        (16_383, b"\x01", bad(BadWhy::Head)),
+        (16_384, b"\x01", bad(BadWhy::TooLong)),
+    ];
+    for (len, back, answer) in table.iter() {
+        let text = padded(rt.alloc(), front, *len, back)?;
+        for size in [1000, 16_384, 20_000] {
+            let small = fed(&rt, 16_384, &text, size)?;
+            assert_eq!(rt; small.0, *answer, "{} bytes", text.len());
+            let large = fed(&rt, 20_000, &text, size)?;
+            assert_eq!(rt; large.0, *answer, "{} bytes", text.len());
+        }
+    }
+    Ok(())
+}
+
+// Messages that fill their room, of heads of 51 and of 56 bytes, and messages with one byte more.
+#[test]
+fn request_bodies_at_their_limit(rt: HostRuntime) -> Result<(), Fail> {
+    let at = b"POST / HTTP/1.1\r\nHost: a\r\nContent-Length: 16333\r\n\r\n";
+    let over = b"POST / HTTP/1.1\r\nHost: a\r\nContent-Length: 16334\r\n\r\n";
+    // 0x3fbb = 16,315, and the lines and ends of chunks are the other 13 bytes
+    let data = b"POST / HTTP/1.1\r\nHost: a\r\nTransfer-Encoding: chunked\r\n\r\n3fbb\r\n";
+    let more = b"POST / HTTP/1.1\r\nHost: a\r\nTransfer-Encoding: chunked\r\n\r\n3fbc\r\n";
+    let table: [(&[u8], usize, &[u8], Fed); 8] = [
+        (at, 16_384, b"", Fed::Whole { used: 16_384 }),
+        (over, 16_385, b"", bad(BadWhy::TooLong)),
+        (data, 16_377, b"\r\n0\r\n\r\n", Fed::Whole { used: 16_384 }),
+        (more, 16_378, b"\r\n0\r\n\r\n", bad(BadWhy::TooLong)),
+        // what can't be a chunk's end is the last byte, and comes one byte later
+        (data, 16_377, b"\r\n1\r\nab", bad(BadWhy::Chunk)),
+        (more, 16_378, b"\r\n1\r\nab", bad(BadWhy::TooLong)),
+        // without an end
+        (data, 16_377, b"\r\n7\r\nab", Fed::More),
+        (data, 16_377, b"\r\n7\r\nabc", bad(BadWhy::TooLong)),
+    ];
+    for (front, len, back, answer) in table.iter() {
+        let text = padded(rt.alloc(), front, *len, back)?;
+        for size in [1000, 16_384, 20_000] {
+            assert_eq!(rt;
+                fed(&rt, 16_384, &text, size)?.0,
+                *answer,
+                "{} bytes",
+                text.len()
+            );
+        }
+    }
+    Ok(())
+}
+
+// Messages in a room of 40,000 bytes, and trailers, which have at most 16,384 bytes behind the last chunk's line.
+#[test]
+fn requests_in_a_larger_room(rt: HostRuntime) -> Result<(), Fail> {
+    let at = b"POST / HTTP/1.1\r\nHost: a\r\nContent-Length: 39949\r\n\r\n";
+    let over = b"POST / HTTP/1.1\r\nHost: a\r\nContent-Length: 39950\r\n\r\n";
+    let data = b"POST / HTTP/1.1\r\nHost: a\r\nTransfer-Encoding: chunked\r\n\r\nffff\r\n";
+    // 56 bytes of head, and 3 of the last chunk's line
+    let trailer = b"POST / HTTP/1.1\r\nHost: a\r\nTransfer-Encoding: chunked\r\n\r\n0\r\nT: ";
+    let table: [(&[u8], usize, &[u8], Fed); 8] = [
+        (at, 40_000, b"", Fed::Whole { used: 40_000 }),
+        (over, 40_001, b"", bad(BadWhy::TooLong)),
+        (data, 40_000, b"", Fed::More),
+        (data, 40_001, b"", bad(BadWhy::TooLong)),
+        (
+            trailer,
+            59 + 16_380,
+            b"\r\n\r\n",
+            Fed::Whole { used: 16_443 },
+        ),
+        (trailer, 59 + 16_381, b"\r\n\r\n", bad(BadWhy::Chunk)),
+        (trailer, 59 + 16_384, b"", Fed::More),
+        (trailer, 59 + 16_385, b"", bad(BadWhy::Chunk)),
+    ];
+    for (front, len, back, answer) in table.iter() {
+        let text = padded(rt.alloc(), front, *len, back)?;
+        for size in [1000, 16_384, 50_000] {
+            assert_eq!(rt;
+                fed(&rt, 40_000, &text, size)?.0,
+                *answer,
+                "{} bytes",
+                text.len()
+            );
+        }
     }
     Ok(())
 }

@@ -4,6 +4,7 @@ ghost use Rattle.std.specs.Fmt.{decimal};
 ghost use Rattle.std.specs.List.{flat_map};
 ghost use Rattle.ws_http.specs.Texts.{request_text, response_text, phrase, is_answer_code, field_line, allow_line};
 
+use crate::code::phrase_of;
 use std::alloc::Global;
 use ws_model::{Bytes, NoMemory, Pair};
 
@@ -68,26 +69,9 @@ pub fn write_request(
     Ok(Bytes::from_vec(text))
 }
 
-// The phrase of an answer's code.
-fn phrase_of(code: u16) -> &'static [u8]
-    ensures { result.now ≡ phrase code }
-{
-    match code {
-        202 => b"Accepted",
-        400 => b"Bad Request",
-        404 => b"Not Found",
-        405 => b"Method Not Allowed",
-        413 => b"Content Too Large",
-        415 => b"Unsupported Media Type",
-        500 => b"Internal Server Error",
-        503 => b"Service Unavailable",
-        507 => b"Insufficient Storage",
-        _ => b"",
-    }
-}
-
 // Puts the status line behind the text.
 fn put_status(alloc: Global, text: &mut Vec<u8>, code: u16) -> Result<(), NoMemory>
+    requires { is_answer_code code ≡ true }
     ensures { OnOk result (text.new.items ≡ text.old.items ++ (codes "HTTP/1.1 " ++ decimal code ++ codes " " ++ phrase code ++ codes "\r\n")) }
 {
     put(text, b"HTTP/1.1 ")?;

@@ -1,4 +1,4 @@
-use Rattle.std.proofs.Common.{List, ℕ, ◌++◌, ap, sym, subst}
+use Rattle.std.proofs.Common.{◌++◌, ap, sym, subst}
 use Rattle.ws_model.specs.declared.work.Outcome.{Outcome}
 use Rattle.ws_exchange.specs.Ends.{Ends}
 use Rattle.ws_exchange.proofs.Heard.{is_more, feed_more, feed_whole, feed_reply, feed_fault}

@@ -1,4 +1,4 @@
-use Rattle.std.proofs.Common.{◌≡◌, ◌+◌, ◌≤◌, ℕ, true, length, take, drop, ap, sym, subst, ◌∙◌}
+use Rattle.std.proofs.Common.{◌≡◌, ◌+◌, ◌≤◌, true, length, take, drop, ap, sym, subst, ◌∙◌}
 use Rattle.ws_link.specs.Links.{after_send}
 use Rattle.ws_exchange.specs.Polls.{Talk, IsSent, is_over}
 use Rattle.ws_exchange.proofs.Told.{sent_more}

@@ -1,6 +1,5 @@
-use Rattle.std.proofs.Common.{◌≡◌, ◌≤◌, List, ℕ, length, take, ap, sym, subst, rules}
+use Rattle.std.proofs.Common.{◌≤◌, length, take, sym, subst, rules}
 use Rattle.ws_link.specs.declared.links.Step.TheVariants as step
-use Rattle.ws_exchange.specs.declared.polls.Polled.{Polled}
 use Rattle.ws_exchange.specs.Polls.{Talk, Comes, Reads, IsFit}
 use Rattle.ws_exchange.proofs.Turns.{took_at, took_comes, took_fit, end_at, end_comes, end_fit, comes_by_take}
 use Rattle.ws_exchange.proofs.polls.Exchange.take.Goals as goal

@@ -1,0 +1,91 @@
+-- An event that one table alone keeps leaves the others as they are.
+use Rattle.std.proofs.Common.{◌≡◌, ℕ, ◌≤◌, true, false, List, ◌∷◌, refl, ap, subst, ◌∙◌}
+use Rattle.std.proofs.lemmas.Bool.{false≢true}
+use Rattle.ws_model.specs.declared.event.Event.{Event}
+use Rattle.ws_model.specs.declared.event.What.{What}
+use Rattle.ws_model.specs.declared.event.What.TheVariants.{Asked, Confirmed, Declined, Unheard, Barred, Noticed, Pinged, Fetched, Same, Unfetched, Pushed, Tally, Revoked}
+use Rattle.ws_model.specs.Legal.{Legal}
+use Rattle.ws_intent.specs.Rows.{Rows as IntentRows}
+use Rattle.ws_intent.specs.Stands.{StandsFor as IntentsStand, is_other as leaves_intents}
+use Rattle.ws_intent.proofs.Standing.{others_stand as intents_stand_on}
+use Rattle.ws_lease.specs.Table.{Rows as LeaseRows}
+use Rattle.ws_lease.specs.Stands.{StandsFor as LeasesStand, touches_leases}
+use Rattle.ws_lease.proofs.Standing.{stands_on as leases_stand_on}
+use Rattle.ws_lease.proofs.WhichEvents.{others_leave}
+use Rattle.ws_topic.specs.Rows.{Rows as TopicRows}
+use Rattle.ws_topic.specs.Stands.{StandsFor as TopicsStand, is_other as leaves_topics}
+use Rattle.ws_topic.proofs.Changes.{others_stand as topics_stand_on}
+use Rattle.ws_delivery.specs.Stands.{is_quiet}
+use Rattle.ws_delivery.proofs.Standing.{stands_on as deliveries_stand_on}
+use Rattle.ws_core_tables.specs.declared.numbers.Numbers.{Numbers}
+use Rattle.ws_core_tables.specs.Numbers.{numbers_of, with_event}
+use Rattle.ws_core_tables.specs.Rows.{Rows}
+use Rattle.ws_core_tables.specs.Stands.{GoesOn, is_of_intents, is_of_topics}
+
+pub numbers_on : (e : Event) (h : List Event) (n m : Numbers) → n ≡ numbers_of h → m ≡ with_event e n → m ≡ numbers_of (e ∷ h)
+numbers_on e h n m k l = l ∙ ap (with_event e) k
+
+pub leases_on : (e : Event) (h : List Event) (since : ℕ) (rows : LeaseRows) → touches_leases e.what ≡ false → LeasesStand h since rows → Legal (e ∷ h) → since ≤ e.t → LeasesStand (e ∷ h) e.t rows
+leases_on e h since rows kind s l k = leases_stand_on rows h e since s k l (others_leave h e kind)
+
+-- what an event of the table of intents leaves
+intents_alone : (w : What) → is_of_intents w ≡ true → (touches_leases w ≡ false) × (leaves_topics w ≡ true) × (is_quiet w ≡ true)
+intents_alone (Asked i) k = (refl, refl, refl)
+intents_alone (Confirmed n sent) k = absurd (false≢true k)
+intents_alone (Declined n code) k = (refl, refl, refl)
+intents_alone (Unheard n) k = (refl, refl, refl)
+intents_alone (Barred n reason) k = (refl, refl, refl)
+intents_alone (Noticed n heard) k = (refl, refl, refl)
+intents_alone (Pinged topic) k = absurd (false≢true k)
+intents_alone (Fetched v) k = absurd (false≢true k)
+intents_alone (Same topic upto) k = absurd (false≢true k)
+intents_alone (Unfetched topic upto why) k = absurd (false≢true k)
+intents_alone (Pushed v n how) k = absurd (false≢true k)
+intents_alone (Tally c) k = absurd (false≢true k)
+intents_alone (Revoked n reason) k = absurd (false≢true k)
+
+pub by_intents :
+    (e : Event) (old : Rows) (intents : IntentRows) (numbers : Numbers) → is_of_intents e.what ≡ true → numbers ≡ with_event e old.numbers
+    → ((h : List Event) → IntentsStand old.intents h → Legal (e ∷ h) → IntentsStand intents (e ∷ h))
+    → GoesOn e old (record { intents = intents; leases = old.leases; topics = old.topics; deliveries = old.deliveries; numbers = numbers })
+by_intents e old intents numbers kind n f h since s l k =
+    record {
+      intents = f h s.intents l;
+      leases = leases_on e h since old.leases (intents_alone e.what kind).0 s.leases l k;
+      topics = topics_stand_on old.topics h e s.topics (intents_alone e.what kind).1;
+      deliveries = deliveries_stand_on h e since old.deliveries l (intents_alone e.what kind).2 k s.deliveries;
+      numbers = numbers_on e h old.numbers numbers s.numbers n;
+    }
+
+-- what an event of the table of topics leaves
+topics_alone : (w : What) → is_of_topics w ≡ true → (touches_leases w ≡ false) × (leaves_intents w ≡ true) × (is_quiet w ≡ true)
+topics_alone (Asked i) k = absurd (false≢true k)
+topics_alone (Confirmed n sent) k = absurd (false≢true k)
+topics_alone (Declined n code) k = absurd (false≢true k)
+topics_alone (Unheard n) k = absurd (false≢true k)
+topics_alone (Barred n reason) k = absurd (false≢true k)
+topics_alone (Noticed n heard) k = absurd (false≢true k)
+topics_alone (Pinged topic) k = (refl, refl, refl)
+topics_alone (Fetched v) k = absurd (false≢true k)
+topics_alone (Same topic upto) k = (refl, refl, refl)
+topics_alone (Unfetched topic upto why) k = (refl, refl, refl)
+topics_alone (Pushed v n how) k = absurd (false≢true k)
+topics_alone (Tally c) k = absurd (false≢true k)
+topics_alone (Revoked n reason) k = absurd (false≢true k)
+
+pub by_topics :
+    (e : Event) (old : Rows) (topics : TopicRows) (numbers : Numbers) → is_of_topics e.what ≡ true → numbers ≡ with_event e old.numbers
+    → ((h : List Event) → TopicsStand old.topics h → Legal (e ∷ h) → TopicsStand topics (e ∷ h))
+    → GoesOn e old (record { intents = old.intents; leases = old.leases; topics = topics; deliveries = old.deliveries; numbers = numbers })
+by_topics e old topics numbers kind n f h since s l k =
+    record {
+      intents = intents_stand_on old.intents h e s.intents (topics_alone e.what kind).1;
+      leases = leases_on e h since old.leases (topics_alone e.what kind).0 s.leases l k;
+      topics = f h s.topics l;
+      deliveries = deliveries_stand_on h e since old.deliveries l (topics_alone e.what kind).2 k s.deliveries;
+      numbers = numbers_on e h old.numbers numbers s.numbers n;
+    }
+
+-- what a table shows is what stands inside
+pub from_shown : (e : Event) (inside shown new : Rows) → inside ≡ shown → GoesOn e inside new → GoesOn e shown new
+from_shown e inside shown new k g = subst (λ (r : Rows). GoesOn e r new) k g

@@ -1,0 +1,62 @@
+-- For which history the tables stand (own).
+use Rattle.std.specs.Prelude.{◌≡◌, ℕ, ◌≤◌, Bool, true, false, List, [], ◌∷◌, Option, Some, None}
+use Rattle.ws_model.specs.declared.event.Event.{Event}
+use Rattle.ws_model.specs.declared.event.What.{What}
+use Rattle.ws_model.specs.declared.event.What.TheVariants.{Asked, Declined, Unheard, Barred, Noticed, Pinged, Same, Unfetched}
+use Rattle.ws_model.specs.declared.work.Work.{Work}
+use Rattle.ws_model.specs.declared.work.Work.TheVariants.{Verify, Notice, Fetch, Push}
+use Rattle.ws_model.specs.Legal.{Legal}
+use Rattle.ws_intent.specs.Stands.{StandsFor as IntentsStand}
+use Rattle.ws_lease.specs.Stands.{StandsFor as LeasesStand}
+use Rattle.ws_topic.specs.Stands.{StandsFor as TopicsStand}
+use Rattle.ws_delivery.specs.Stands.{StandsFor as DeliveriesStand}
+use Rattle.ws_core_tables.specs.declared.due.DueWork.{DueWork}
+use Rattle.ws_core_tables.specs.declared.due.DueWork.TheVariants.{Verify as DueVerify, Notice as DueNotice, Fetch as DueFetch, Push as DuePush}
+use Rattle.ws_core_tables.specs.Numbers.{numbers_of}
+use Rattle.ws_core_tables.specs.Rows.{Rows}
+
+-- From the moment `since` on each table stands for the history, and the numbers are the history's.
+pub record StandsFor (h : List Event) (since : ℕ) (rows : Rows) : Type 0 where
+  pub intents : IntentsStand rows.intents h
+  pub leases : LeasesStand h since rows.leases
+  pub topics : TopicsStand rows.topics h
+  pub deliveries : DeliveriesStand h since rows.deliveries
+  pub numbers : rows.numbers ≡ numbers_of h
+
+-- what stands for a history goes over to what stands for the history with the event
+abbrev pub GoesOn : Event → Rows → Rows → Type 0
+GoesOn e old new = (h : List Event) (since : ℕ) → StandsFor h since old → Legal (e ∷ h) → since ≤ e.t → StandsFor (e ∷ h) e.t new
+
+-- a history for which the tables stand, and which the event may follow
+pub record CanFollow (rows : Rows) (e : Event) : Type 0 where
+  pub past : List Event
+  pub since : ℕ
+  pub stands : StandsFor past since rows
+  pub legal : Legal (e ∷ past)
+  pub in_time : since ≤ e.t
+
+abbrev pub first_of : {X : Type 0} → List X → Option X
+first_of [] = None
+first_of (x ∷ xs) = Some x
+
+abbrev pub work_of : DueWork → Work
+work_of (DueVerify n) = Verify n
+work_of (DueNotice n) = Notice n
+work_of (DueFetch topic upto) = Fetch topic.now upto
+work_of (DuePush ver lease) = Push ver lease
+
+-- the kinds of event that only the table of intents keeps
+abbrev pub is_of_intents : What → Bool
+is_of_intents (Asked i) = true
+is_of_intents (Declined n code) = true
+is_of_intents (Unheard n) = true
+is_of_intents (Barred n reason) = true
+is_of_intents (Noticed n heard) = true
+is_of_intents _ = false
+
+-- the kinds of event that only the table of topics keeps
+abbrev pub is_of_topics : What → Bool
+is_of_topics (Pinged topic) = true
+is_of_topics (Same topic upto) = true
+is_of_topics (Unfetched topic upto why) = true
+is_of_topics _ = false

@@ -1,5 +1,5 @@
 -- The first due push of a table is the history's.
-use Rattle.std.proofs.Common.{◌≡◌, ℕ, ◌≤◌, ◌<◌, Bool, true, false, not, cond, ◌&&◌, ◌||◌, List, [], ◌∷◌, ◌++◌, refl, ap, sym, ◌∙◌, subst, arith}
+use Rattle.std.proofs.Common.{◌≡◌, ℕ, ◌≤◌, ◌<◌, Bool, true, false, not, cond, ◌&&◌, ◌||◌, List, [], ◌∷◌, refl, ap, sym, ◌∙◌, subst, arith}
 use Rattle.std.specs.Prelude.{nat_lt, nat_le, Option, Some, None, filter, find, map, ◌==◌}
 use Rattle.std.specs.List.{AllByRecursion, list_any}
 use Rattle.std.specs.Option.{option_map}
@@ -10,15 +10,14 @@ use Rattle.ws_model.specs.declared.work.Work.{Work}
 use Rattle.ws_model.specs.declared.work.Work.TheVariants.{Push}
 use Rattle.ws_model.specs.Fate.{Pair, fate, is_owed, next}
 use Rattle.ws_model.specs.Pairs.{owed, pairs}
-use Rattle.ws_model.specs.Due.{place, in_order, by_next, is_behind, due_pairs, due_pushes, is_out, same_work}
+use Rattle.ws_model.specs.Due.{place, in_order, by_next, is_behind, due_pairs, is_out}
 use Rattle.ws_model.specs.Legal.{Legal}
-use Rattle.ws_model.specs.View.{OwedPush, owed_push}
-use Rattle.ws_order.specs.NextTries.{is_out_push}
+use Rattle.ws_model.specs.View.{owed_push}
 use Rattle.ws_laws.proofs.ListLaws.{all_weaker, all_filter, find-map}
 use Rattle.ws_laws.proofs.Paired.{AreUnlike, unlike_filter, same_numbers, pairs_apart}
 use Rattle.ws_delivery.specs.declared.open_pair.OpenPair.{OpenPair}
-use Rattle.ws_delivery.specs.Table.{Rows, pair_at, owed_at, unexpired}
-use Rattle.ws_delivery.specs.NextDue.{IsDue, IsFirstDue, IsNextDue, comes_before}
+use Rattle.ws_delivery.specs.Table.{Rows, owed_at}
+use Rattle.ws_delivery.specs.NextDue.{IsDue, IsFirstDue, comes_before}
 use Rattle.ws_delivery.specs.Stands.{StandsFor, shown, shown_of, is_pair}
 use Rattle.ws_delivery.specs.Agrees.{NextDueAgrees}
 

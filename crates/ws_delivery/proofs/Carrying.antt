@@ -1,16 +1,16 @@
 -- How far a lease's open pairs have been carried over.
-use Rattle.std.proofs.Common.{◌≡◌, ℕ, suc, ◌+◌, ◌<◌, ◌≤◌, Bool, true, false, not, cond, ◌&&◌, ◌||◌, List, [], ◌∷◌, refl, ap, sym, ◌∙◌, subst, arith, length}
+use Rattle.std.proofs.Common.{◌≡◌, ℕ, ◌<◌, ◌≤◌, Bool, true, false, not, cond, ◌&&◌, ◌||◌, List, [], ◌∷◌, refl, ap, sym, ◌∙◌, subst, arith, length}
 use Rattle.std.specs.Prelude.{filter, nat_lt, ◌==◌, Option, Some, None, IfSome, IsSome, is_some}
 use Rattle.std.specs.List.{list_any}
 use Rattle.std.proofs.lemmas.Bool.{false≢true}
 use Rattle.std.proofs.lemmas.Bool.Decides.{nat_tests}
 use Rattle.ws_delivery.specs.declared.open_pair.OpenPair.{OpenPair}
-use Rattle.ws_delivery.specs.Table.{Rows, pair_order, pair_at, is_here, is_of_lease, number_of, fresh, carried, IsNextOpen}
+use Rattle.ws_delivery.specs.Table.{Rows, pair_order, pair_at, is_here, is_of_lease, fresh, carried, IsNextOpen}
 use Rattle.std.specs.Map.{keys_of}
 use Rattle.std.specs.List.Sorted.{IsStrictlySortedBy}
 use Rattle.ws_order.specs.declared.next_try.NextTry.{NextTry}
 use Rattle.ws_delivery.specs.Indexed.{head_try}
-use Rattle.ws_delivery.proofs.RowsByKey.{look_at, ascends, head_is, no_head}
+use Rattle.ws_delivery.proofs.RowsByKey.{look_at, ascends, head_is}
 
 -- the version was carried over already
 abbrev pub is_done : Option ℕ → ℕ → Bool
@@ -22,7 +22,6 @@ pub record IsCarried (exp t old new : ℕ) (start now : Rows) (next : Option ℕ
   pub others : (v n : ℕ) → (new == n) ≡ false → pair_at v n now ≡ pair_at v n start
   pub moved : (v : ℕ) → pair_at v new now ≡ cond (is_done next v) (carried exp t (pair_at v old start)) None
   pub following : IfSome next (λ u. IsSome (pair_at u old start))
-  pub kept : number_of old now ≡ number_of old start
 
 -- how many are still to be carried over
 abbrev pub is_left : ℕ → Option ℕ → (ℕ × ℕ) × OpenPair → Bool
@@ -102,18 +101,14 @@ differ old new u start none k = by (new == old) refl
     by false q = refl
 
 pub one_carried : (exp t old new u : ℕ) (start now after : Rows) (next : Option ℕ) → ((v : ℕ) → pair_at v new start ≡ None) → IsCarried exp t old new start now (Some u)
-    → ((v n : ℕ) → pair_at v n after ≡ cond (is_here u new v n) (Some (fresh exp t)) (pair_at v n now)) → ((n : ℕ) → number_of n after ≡ number_of n now + cond (new == n) 1 0) → IsNextOpen u old after next → IsCarried exp t old new start after next
-one_carried exp t old new u start now after next none i look number f =
+    → ((v n : ℕ) → pair_at v n after ≡ cond (is_here u new v n) (Some (fresh exp t)) (pair_at v n now)) → IsNextOpen u old after next → IsCarried exp t old new start after next
+one_carried exp t old new u start now after next none i look f =
     record {
       others = others;
       moved = moved;
       following = ahead next f;
-      kept = number old ∙ ap (λ b. number_of old now + cond b 1 0) apart ∙ nothing (number_of old now) ∙ i.kept;
     }
   where
-    nothing : (k : ℕ) → k + 0 ≡ k
-    nothing k = omega arith
-
     apart : (new == old) ≡ false
     apart = differ old new u start none i.following
 
@@ -179,7 +174,7 @@ one_carried exp t old new u start now after next none i look number f =
 pub nothing_carried : (exp t old new : ℕ) (start : Rows) (next : Option ℕ) → ((v : ℕ) → pair_at v new start ≡ None) → IfSome next (λ u. IsSome (pair_at u old start) × ((w : ℕ) → w < u → pair_at w old start ≡ None)) → (next ≡ None → (v : ℕ) → pair_at v old start ≡ None)
     → IsCarried exp t old new start start next
 nothing_carried exp t old new start next none f g =
-    record { others = λ v n q. refl; moved = λ v. none v ∙ by v next f g; following = ahead next f; kept = refl }
+    record { others = λ v n q. refl; moved = λ v. none v ∙ by v next f g; following = ahead next f }
   where
     lt : (v x : ℕ) → nat_lt v x ≡ true → v < x
     lt v x q = grind (arith, nat_tests)
@@ -196,19 +191,41 @@ nothing_carried exp t old new start next none f g =
         one true q = ap (carried exp t) (sym (f.1 v (lt v u q)))
         one false q = refl
 
--- all were carried over, and the old lease's are closed
-pub all_carried : (exp t old new : ℕ) (start now after : Rows) → ((v : ℕ) → pair_at v new start ≡ None) → IsCarried exp t old new start now None → ((v n : ℕ) → pair_at v n after ≡ cond (old == n) None (pair_at v n now))
-    → (v n : ℕ) → pair_at v n after ≡ cond (new == n) (carried exp t (pair_at v old start)) (cond (old == n) None (pair_at v n start))
-all_carried exp t old new start now after none i look v n = look v n ∙ by (new == n) refl (old == n) refl
+-- all were carried over
+pub all_carried : (exp t old new : ℕ) (start now : Rows) → IsCarried exp t old new start now None → (v n : ℕ) → pair_at v n now ≡ cond (new == n) (carried exp t (pair_at v old start)) (pair_at v n start)
+all_carried exp t old new start now i v n = by (new == n) refl
   where
     eq : (a b : ℕ) → (a == b) ≡ true → a ≡ b
     eq a b q = grind (arith, nat_tests)
 
-    by : (b : Bool) → (new == n) ≡ b → (c : Bool) → (old == n) ≡ c → cond c None (pair_at v n now) ≡ cond b (carried exp t (pair_at v old start)) (cond c None (pair_at v n start))
+    by : (b : Bool) → (new == n) ≡ b → pair_at v n now ≡ cond b (carried exp t (pair_at v old start)) (pair_at v n start)
+    by true p = ap (λ z. pair_at v z now) (sym (eq new n p)) ∙ i.moved v
+    by false p = i.others v n p
+
+-- where nothing is open, nothing is carried over
+pub none_carried : (exp t old new : ℕ) (start : Rows) → ((v : ℕ) → pair_at v new start ≡ None) → ((v : ℕ) → pair_at v old start ≡ None) → (v n : ℕ) → pair_at v n start ≡ cond (new == n) (carried exp t (pair_at v old start)) (pair_at v n start)
+none_carried exp t old new start none none' v n = by (new == n) refl
+  where
+    eq : (new == n) ≡ true → new ≡ n
+    eq q = grind (arith, nat_tests)
+
+    by : (b : Bool) → (new == n) ≡ b → pair_at v n start ≡ cond b (carried exp t (pair_at v old start)) (pair_at v n start)
+    by true p = ap (λ z. pair_at v z start) (sym (eq p)) ∙ none v ∙ ap (carried exp t) (sym (none' v))
+    by false p = refl
+
+-- the old lease's are closed once all were carried over
+pub old_closed : (exp t old new : ℕ) (start now after : Rows) → ((v : ℕ) → pair_at v new start ≡ None) → ((v n : ℕ) → pair_at v n now ≡ cond (new == n) (carried exp t (pair_at v old start)) (pair_at v n start)) → ((v n : ℕ) → pair_at v n after ≡ cond (old == n) None (pair_at v n now))
+    → (v n : ℕ) → pair_at v n after ≡ cond (new == n) (carried exp t (pair_at v old start)) (cond (old == n) None (pair_at v n start))
+old_closed exp t old new start now after none renewed look v n = look v n ∙ ap (λ z. cond (old == n) None z) (renewed v n) ∙ by (new == n) refl (old == n) refl
+  where
+    eq : (a b : ℕ) → (a == b) ≡ true → a ≡ b
+    eq a b q = grind (arith, nat_tests)
+
+    by : (b : Bool) → (new == n) ≡ b → (c : Bool) → (old == n) ≡ c → cond c None (cond b (carried exp t (pair_at v old start)) (pair_at v n start)) ≡ cond b (carried exp t (pair_at v old start)) (cond c None (pair_at v n start))
     by true p true q = ap (carried exp t) (sym (ap (λ z. pair_at v z start) (eq old n q ∙ sym (eq new n p)) ∙ none v))
-    by true p false q = ap (λ z. pair_at v z now) (sym (eq new n p)) ∙ i.moved v
+    by true p false q = refl
     by false p true q = refl
-    by false p false q = i.others v n p
+    by false p false q = refl
 
 -- what was carried over is closed again
 pub carried_back : (exp t old new : ℕ) (start now after : Rows) (next : Option ℕ) → ((v : ℕ) → pair_at v new start ≡ None) → IsCarried exp t old new start now next → ((v n : ℕ) → pair_at v n after ≡ cond (new == n) None (pair_at v n now)) → (v n : ℕ) → pair_at v n after ≡ pair_at v n start
@@ -240,9 +257,6 @@ pub head_first : (exp t old new : ℕ) (start rows : Rows) (x : NextTry) → row
 head_first exp t old new start rows x same s none e =
     let h = head_is old rows x (ascends rows s) e in
     nothing_carried exp t old new start (Some x.ver) none (sym (ap (λ z. is_some (pair_at x.ver old z)) same) ∙ ap is_some h.open_pair, λ w k. sym (ap (pair_at w old) same) ∙ h.lowest w k) (λ k. absurd (cc))
-
-pub head_none : (exp t old new : ℕ) (start rows : Rows) → rows ≡ start → ((v : ℕ) → pair_at v new start ≡ None) → head_try old rows ≡ None → IsCarried exp t old new start start None
-head_none exp t old new start rows same none e = nothing_carried exp t old new start None none tt (λ k v. sym (ap (pair_at v old) same) ∙ no_head old rows e v)
 
 pub old_stays : (exp t old new u : ℕ) (start now after : Rows) → ((v : ℕ) → pair_at v new start ≡ None) → IsCarried exp t old new start now (Some u)
     → ((v n : ℕ) → pair_at v n after ≡ cond (is_here u new v n) (Some (fresh exp t)) (pair_at v n now)) → (w : ℕ) → pair_at w old after ≡ pair_at w old start

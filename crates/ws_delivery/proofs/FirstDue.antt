@@ -1,15 +1,15 @@
 -- The first next try that is ready is the push that is due first.
 use Rattle.std.proofs.Common.{◌≡◌, ℕ, ◌<◌, ◌≤◌, Bool, true, false, not, cond, ◌&&◌, ◌||◌, List, [], ◌∷◌, refl, ap, sym, ◌∙◌, subst, arith}
 use Rattle.std.specs.Prelude.{find, ◌==◌, nat_lt, nat_le, Option, Some, None, IfSome}
-use Rattle.std.specs.List.{AllByRecursion, list_any}
-use Rattle.std.proofs.lemmas.Bool.{false≢true, and_parts}
+use Rattle.std.specs.List.{AllByRecursion}
+use Rattle.std.proofs.lemmas.Bool.{false≢true}
 use Rattle.std.proofs.lemmas.Bool.Decides.{nat_tests}
 use Rattle.ws_model.specs.declared.work.Work.{Work}
 use Rattle.ws_order.specs.declared.next_try.NextTry.{NextTry}
 use Rattle.ws_order.specs.NextTries.{before, same, has, is_ready, is_out_push, IsRising}
 use Rattle.ws_order.proofs.Rising.{same_is, not_back}
 use Rattle.ws_delivery.specs.declared.open_pair.OpenPair.{OpenPair}
-use Rattle.ws_delivery.specs.Table.{Rows, pair_at, owed_at, unexpired}
+use Rattle.ws_delivery.specs.Table.{Rows, pair_at, unexpired}
 use Rattle.ws_delivery.specs.Indexed.{IsIndexed, head_try, is_it, try_of}
 use Rattle.ws_delivery.specs.NextDue.{IsDue, IsFirstDue, comes_before}
 use Rattle.ws_delivery.proofs.RowsByKey.{ascends, head_is, is_head, IsHead}

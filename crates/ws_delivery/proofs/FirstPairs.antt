@@ -1,10 +1,9 @@
 -- The index of first pairs follows the open pairs.
-use Rattle.std.proofs.Common.{◌≡◌, ℕ, ◌<◌, ◌≤◌, Bool, true, false, not, cond, ◌&&◌, ◌||◌, List, [], ◌∷◌, refl, ap, sym, ◌∙◌, subst, arith}
-use Rattle.std.specs.Prelude.{filter, ◌==◌, nat_lt, nat_le, Option, Some, None, IfSome, IsSomeAnd}
+use Rattle.std.proofs.Common.{◌≡◌, ℕ, ◌<◌, Bool, true, false, not, cond, ◌&&◌, ◌||◌, List, [], ◌∷◌, refl, ap, sym, ◌∙◌, subst, arith}
+use Rattle.std.specs.Prelude.{filter, ◌==◌, Option, Some, None, IfSome, IsSomeAnd}
 use Rattle.std.specs.Map.{keys_of}
 use Rattle.std.specs.List.{list_any}
 use Rattle.std.specs.List.Sorted.{IsStrictlySortedBy}
-use Rattle.std.proofs.lemmas.Bool.{false≢true}
 use Rattle.std.proofs.lemmas.Bool.Decides.{nat_tests}
 use Rattle.ws_model.specs.Due.{place}
 use Rattle.ws_order.specs.declared.next_try.NextTry.{NextTry}
@@ -154,6 +153,18 @@ head_is_there old heads lease b i first =
 
 pub head_leases : (n : ℕ) (rows : Rows) → IsStrictlySortedBy pair_order (keys_of rows) → IfSome (head_try n rows) (λ y. y.lease ≡ n)
 head_leases = head_lease
+
+-- all pairs of a lease end when its first one does
+pub ends_with_first : (rows : Rows) (heads : List NextTry) (n : ℕ) (o : Option NextTry) → IsIndexed rows heads → head_try n rows ≡ o → IfSome o (λ x. (v : ℕ) → IfSome (pair_at v n rows) (λ p. p.exp ≡ x.exp))
+ends_with_first rows heads n None i e = tt
+ends_with_first rows heads n (Some x) i e = λ v.
+    let h = head_is n rows x (ascends rows i.ordered) e in
+    by (pair_at v n rows) (pair_at x.ver n rows) (i.one_end n v x.ver) h.pair h.open_pair (ap (λ (z : NextTry). z.exp) h.is)
+  where
+    by : (o q : Option OpenPair) → Agree o q → (p : OpenPair) → q ≡ Some p → x.exp ≡ p.exp → IfSome o (λ r. r.exp ≡ x.exp)
+    by None q a p k l = tt
+    by (Some r) None a p k l = absurd (cc)
+    by (Some r) (Some q) a p k l = let z : q ≡ p = cc in a ∙ ap (λ (y : OpenPair). y.exp) z ∙ sym l
 
 -- ---- the first pair of a lease that had none
 

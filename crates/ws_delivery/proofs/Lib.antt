@@ -4,3 +4,4 @@ pub mod FirstDue
 pub mod Standing
 pub mod Agreeing
 pub mod Carrying
+pub mod Counting

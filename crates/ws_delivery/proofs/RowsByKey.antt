@@ -1,11 +1,11 @@
 -- Open pairs in the order of lease and version, and the first of each lease.
-use Rattle.std.proofs.Common.{◌≡◌, ℕ, suc, ◌+◌, ◌<◌, ◌≤◌, Bool, true, false, not, cond, ◌&&◌, ◌||◌, List, [], ◌∷◌, ◌++◌, refl, ap, sym, ◌∙◌, subst, arith, length, ◌⊎◌, inl, inr}
-use Rattle.std.specs.Prelude.{filter, find, nat_lt, nat_le, ◌==◌, Option, Some, None, IfSome, IsSome, IsSomeAnd, is_some}
-use Rattle.std.specs.List.{AllByRecursion, list_any}
+use Rattle.std.proofs.Common.{◌≡◌, ℕ, ◌+◌, ◌<◌, Bool, true, false, cond, ◌&&◌, ◌||◌, List, [], ◌∷◌, refl, ap, sym, ◌∙◌, subst, arith, length, ◌⊎◌, inl, inr}
+use Rattle.std.specs.Prelude.{filter, nat_lt, nat_le, ◌==◌, Option, Some, None, IsSome, IsSomeAnd, is_some}
+use Rattle.std.specs.List.{AllByRecursion}
 use Rattle.std.specs.List.Sorted.{IsStrictlySortedBy}
 use Rattle.std.specs.Map.{lookup, keys_of, remove_entry}
 use Rattle.std.specs.BTreeMap.{is_at, insert_entry}
-use Rattle.std.specs.Ordering.{nat_cmp, ordering_then, is_le, is_lt, is_eq as is_order_eq, match_ordering}
+use Rattle.std.specs.Ordering.{is_le, is_lt, is_eq as is_order_eq, match_ordering}
 use Rattle.std.specs.declared.cmp.Ordering.{Ordering}
 use Rattle.std.specs.declared.cmp.Ordering.TheVariants.{Less, Equal, Greater}
 use Rattle.std.proofs.lemmas.Map.Views.{All-after_first}
@@ -255,34 +255,44 @@ closed_look lease v n new old f g = by (lease == n) refl
 
 -- ---- how many pairs of a lease are open
 
-pub removed_number : (v n : ℕ) (p : OpenPair) (rows : Rows) → pair_at v n rows ≡ Some p → number_of n (remove_entry (is_at (pair_order (n, v))) rows) + 1 ≡ number_of n rows
-removed_number v n p [] e = absurd (cc)
-removed_number v n p (r ∷ rows) e = one (is_at (pair_order (n, v)) r.0) refl e (removed_number v n p rows)
+pub removed_count : (f : (ℕ × ℕ) × OpenPair → Bool) (v n : ℕ) (p : OpenPair) (rows : Rows) → pair_at v n rows ≡ Some p → length (filter f (remove_entry (is_at (pair_order (n, v))) rows)) + cond (f ((n, v), p)) 1 0 ≡ length (filter f rows)
+removed_count f v n p [] e = absurd (cc)
+removed_count f v n p (r ∷ rows) e = one (is_at (pair_order (n, v)) r.0) refl e (removed_count f v n p rows)
   where
-    here : (m u : ℕ) → is_at (pair_order (n, v)) (m, u) ≡ true → (m == n) ≡ true
-    here m u k = both n v m u (sym (key_test n v m u) ∙ k)
+    key : (m u : ℕ) → is_at (pair_order (n, v)) (m, u) ≡ true → (m ≡ n) × (u ≡ v)
+    key m u k = both m u (sym (key_test n v m u) ∙ k)
       where
-        both : (n v m u : ℕ) → ((n == m) && (v == u)) ≡ true → (m == n) ≡ true
-        both n v m u k = grind (arith, nat_tests)
+        both : (m u : ℕ) → ((n == m) && (v == u)) ≡ true → (m ≡ n) × (u ≡ v)
+        both m u k = (grind (arith, nat_tests), grind (arith, nat_tests))
 
-    count : (b : Bool) (e : (ℕ × ℕ) × OpenPair) (xs ys : Rows) → length xs + 1 ≡ length ys → length (cond b (e ∷ xs) xs) + 1 ≡ length (cond b (e ∷ ys) ys)
-    count true e xs ys k = omega arith
-    count false e xs ys k = k
+    count : (b : Bool) (e : (ℕ × ℕ) × OpenPair) (xs ys : Rows) (k : ℕ) → length xs + k ≡ length ys → length (cond b (e ∷ xs) xs) + k ≡ length (cond b (e ∷ ys) ys)
+    count true e xs ys k q = omega arith
+    count false e xs ys k q = q
 
-    one : (b : Bool) → is_at (pair_order (n, v)) r.0 ≡ b → cond b (Some r.1) (pair_at v n rows) ≡ Some p → (pair_at v n rows ≡ Some p → number_of n (remove_entry (is_at (pair_order (n, v))) rows) + 1 ≡ number_of n rows) → number_of n (cond b rows (r ∷ remove_entry (is_at (pair_order (n, v))) rows)) + 1 ≡ number_of n (r ∷ rows)
-    one true k e f = longer (is_of_lease n r) (here r.0.0 r.0.1 k)
-      where
-        longer : (b : Bool) → b ≡ true → number_of n rows + 1 ≡ length (cond b (r ∷ filter (is_of_lease n) rows) (filter (is_of_lease n) rows))
-        longer true z = omega arith
-        longer false z = absurd (false≢true z)
-    one false k e f = count (is_of_lease n r) r _ _ (f e)
+    some_is : Some r.1 ≡ Some p → r.1 ≡ p
+    some_is z = cc
+
+    here : (b : Bool) → length (filter f rows) + cond b 1 0 ≡ length (cond b (r ∷ filter f rows) (filter f rows))
+    here true = omega arith
+    here false = omega arith
+
+    one : (b : Bool) → is_at (pair_order (n, v)) r.0 ≡ b → cond b (Some r.1) (pair_at v n rows) ≡ Some p → (pair_at v n rows ≡ Some p → length (filter f (remove_entry (is_at (pair_order (n, v))) rows)) + cond (f ((n, v), p)) 1 0 ≡ length (filter f rows))
+        → length (filter f (cond b rows (r ∷ remove_entry (is_at (pair_order (n, v))) rows))) + cond (f ((n, v), p)) 1 0 ≡ length (filter f (r ∷ rows))
+    one true k e g =
+        let q = key r.0.0 r.0.1 k in
+        let same : r ≡ ((n, v), p) = λ j. ((q.0 j, q.1 j), some_is e j) in
+        subst (λ z. length (filter f rows) + cond (f z) 1 0 ≡ length (cond (f r) (r ∷ filter f rows) (filter f rows))) same (here (f r))
+    one false k e g = count (f r) r _ _ (cond (f ((n, v), p)) 1 0) (g e)
 
 pub removed_number_of : (v n : ℕ) (rows : Rows) → IsSome (pair_at v n rows) → number_of n (remove_entry (is_at (pair_order (n, v))) rows) + 1 ≡ number_of n rows
 removed_number_of v n rows k = by (pair_at v n rows) refl k
   where
+    self : (n == n) ≡ true
+    self = grind (arith, nat_tests)
+
     by : (o : Option OpenPair) → pair_at v n rows ≡ o → IsSome o → number_of n (remove_entry (is_at (pair_order (n, v))) rows) + 1 ≡ number_of n rows
     by None e k = absurd (false≢true k)
-    by (Some p) e k = removed_number v n p rows e
+    by (Some p) e k = ap (λ b. number_of n (remove_entry (is_at (pair_order (n, v))) rows) + cond b 1 0) (sym self) ∙ removed_count (is_of_lease n) v n p rows e
 
 pub none_number : (n : ℕ) (rows : Rows) → head_try n rows ≡ None → number_of n rows ≡ 0
 none_number n [] e = refl
@@ -422,26 +432,24 @@ same_rows (e ∷ es) (r ∷ fs) s u f = by_order (nat_lt e.0.0 r.0.0 || ((e.0.0 
 
 -- ---- one more open pair
 
-pub inserted_number : (v n m : ℕ) (p : OpenPair) (rows : Rows) → pair_at v n rows ≡ None → number_of m (insert_entry pair_order rows (n, v) p) ≡ number_of m rows + cond (n == m) 1 0
-inserted_number v n m p [] e = by (n == m) ((n, v), p)
+pub inserted_count : (f : (ℕ × ℕ) × OpenPair → Bool) (v n : ℕ) (p : OpenPair) (rows : Rows) → pair_at v n rows ≡ None → length (filter f (insert_entry pair_order rows (n, v) p)) ≡ length (filter f rows) + cond (f ((n, v), p)) 1 0
+inserted_count f v n p [] e = by (f ((n, v), p)) ((n, v), p)
   where
     by : (b : Bool) (x : (ℕ × ℕ) × OpenPair) → length (cond b (x ∷ []) []) ≡ 0 + cond b 1 0
     by true x = omega arith
     by false x = omega arith
-inserted_number v n m p (r ∷ rows) e = by (pair_order (n, v) r.0) e (inserted_number v n m p rows)
+inserted_count f v n p (r ∷ rows) e = by (pair_order (n, v) r.0) e (inserted_count f v n p rows)
   where
-    longer : (b c : Bool) (x : (ℕ × ℕ) × OpenPair) (xs : Rows) → b ≡ c → length (cond b (x ∷ xs) xs) ≡ length xs + cond c 1 0
-    longer true true x xs k = omega arith
-    longer true false x xs k = absurd (false≢true (sym k))
-    longer false true x xs k = absurd (false≢true k)
-    longer false false x xs k = omega arith
+    longer : (b : Bool) (x : (ℕ × ℕ) × OpenPair) (xs : Rows) → length (cond b (x ∷ xs) xs) ≡ length xs + cond b 1 0
+    longer true x xs = omega arith
+    longer false x xs = omega arith
 
     both : (b : Bool) (x : (ℕ × ℕ) × OpenPair) (xs ys : Rows) (k : ℕ) → length ys ≡ length xs + k → length (cond b (x ∷ ys) ys) ≡ length (cond b (x ∷ xs) xs) + k
     both true x xs ys k q = omega arith
     both false x xs ys k q = q
 
-    by : (o : Ordering) → cond (is_order_eq o) (Some r.1) (pair_at v n rows) ≡ None → (pair_at v n rows ≡ None → number_of m (insert_entry pair_order rows (n, v) p) ≡ number_of m rows + cond (n == m) 1 0)
-        → number_of m (match_ordering o (((n, v), p) ∷ r ∷ rows) ((r.0, p) ∷ rows) (r ∷ insert_entry pair_order rows (n, v) p)) ≡ number_of m (r ∷ rows) + cond (n == m) 1 0
-    by Less e f = longer (n == m) (n == m) ((n, v), p) (filter (is_of_lease m) (r ∷ rows)) refl
-    by Equal e f = absurd (cc)
-    by Greater e f = both (is_of_lease m r) r (filter (is_of_lease m) rows) (filter (is_of_lease m) (insert_entry pair_order rows (n, v) p)) (cond (n == m) 1 0) (f e)
+    by : (o : Ordering) → cond (is_order_eq o) (Some r.1) (pair_at v n rows) ≡ None → (pair_at v n rows ≡ None → length (filter f (insert_entry pair_order rows (n, v) p)) ≡ length (filter f rows) + cond (f ((n, v), p)) 1 0)
+        → length (filter f (match_ordering o (((n, v), p) ∷ r ∷ rows) ((r.0, p) ∷ rows) (r ∷ insert_entry pair_order rows (n, v) p))) ≡ length (filter f (r ∷ rows)) + cond (f ((n, v), p)) 1 0
+    by Less e g = longer (f ((n, v), p)) ((n, v), p) (filter f (r ∷ rows))
+    by Equal e g = absurd (cc)
+    by Greater e g = both (f r) r (filter f rows) (filter f (insert_entry pair_order rows (n, v) p)) (cond (f ((n, v), p)) 1 0) (g e)

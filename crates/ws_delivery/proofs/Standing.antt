@@ -1,14 +1,13 @@
 -- The table and the history.
-use Rattle.std.proofs.Common.{◌≡◌, ℕ, ◌≤◌, ◌<◌, Bool, true, false, not, cond, ◌&&◌, List, [], ◌∷◌, ◌++◌, refl, ap, sym, ◌∙◌, subst, arith}
-use Rattle.std.specs.Prelude.{nat_lt, nat_le, is_none, max, Option, Some, None, filter, find, map, ◌==◌}
-use Rattle.std.specs.List.{AllByRecursion, list_any}
+use Rattle.std.proofs.Common.{◌≡◌, ℕ, ◌≤◌, Bool, true, false, cond, ◌&&◌, List, [], ◌∷◌, refl, ap, sym, ◌∙◌, arith}
+use Rattle.std.specs.Prelude.{nat_lt, max, Option, Some, None, filter, find, map, ◌==◌}
+use Rattle.std.specs.List.{AllByRecursion}
 use Rattle.std.specs.Option.{option_map}
 use Rattle.std.proofs.lemmas.Bool.{false≢true}
 use Rattle.std.proofs.lemmas.Bool.Decides.{nat_tests}
 use Rattle.ws_model.specs.declared.event.Event.{Event}
 use Rattle.ws_model.specs.declared.event.What.{What}
 use Rattle.ws_model.specs.declared.event.What.TheVariants.{Asked, Confirmed, Declined, Unheard, Barred, Noticed, Pinged, Fetched, Same, Unfetched, Pushed, Tally, Revoked}
-use Rattle.ws_model.specs.declared.event.Intent.{Intent}
 use Rattle.ws_model.specs.Moment.{last_time}
 use Rattle.ws_model.specs.Leases.{expiry, confirmed_intent}
 use Rattle.ws_model.specs.Fate.{Pair, fate, is_owed}
@@ -18,12 +17,12 @@ use Rattle.ws_model.specs.View.{OwedPush, owed_push, view}
 use Rattle.ws_laws.specs.Steps.{owed_after, after_miss, stays_owed}
 use Rattle.ws_laws.proofs.Advance.{owing_later}
 use Rattle.ws_laws.proofs.Known.{in_time}
-use Rattle.ws_laws.proofs.ListLaws.{all_map, all_weaker, all_filter, filter_all, map_same, all_from}
+use Rattle.ws_laws.proofs.ListLaws.{all_map, all_weaker, all_filter}
 use Rattle.ws_laws.proofs.Paired.{AreUnlike, unlike_filter, same_numbers, pairs_apart}
 use Rattle.ws_laws.proofs.Step.{owed_step}
 use Rattle.ws_delivery.specs.declared.open_pair.OpenPair.{OpenPair}
 use Rattle.ws_delivery.specs.Table.{Rows, pair_at, owed_at, unexpired}
-use Rattle.ws_delivery.specs.Stands.{StandsFor, FollowsStep, StandsEmpty, StandsLater, StandsAfter, StandsOn, shown, shown_of, is_pair, is_quiet}
+use Rattle.ws_delivery.specs.Stands.{StandsEmpty, StandsLater, StandsAfter, StandsOn, shown, shown_of, is_pair, is_quiet}
 
 -- ---- owed pairs have numbers of their own
 

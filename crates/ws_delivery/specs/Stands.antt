@@ -1,21 +1,17 @@
 -- For which history a table of open pairs stands (own).
-use Rattle.std.specs.Prelude.{◌≡◌, ℕ, ◌≤◌, max, Bool, true, false, not, List, [], ◌∷◌, map, find, ◌==◌, ◌&&◌, Option, Some, None}
+use Rattle.std.specs.Prelude.{◌≡◌, ℕ, ◌≤◌, Bool, true, false, List, [], ◌∷◌, map, find, ◌==◌, ◌&&◌, Option}
 use Rattle.std.specs.Option.{option_map}
 use Rattle.ws_model.specs.declared.event.Event.{Event}
 use Rattle.ws_model.specs.declared.event.What.{What}
 use Rattle.ws_model.specs.declared.event.What.TheVariants.{Confirmed, Fetched, Pushed, Revoked}
-use Rattle.ws_model.specs.declared.work.Work.{Work}
-use Rattle.ws_model.specs.declared.work.Work.TheVariants.{Push}
 use Rattle.ws_model.specs.Moment.{last_time}
 use Rattle.ws_model.specs.Leases.{expiry, confirmed_intent}
 use Rattle.ws_model.specs.Pairs.{owed}
-use Rattle.ws_model.specs.Due.{due_pushes, is_out}
 use Rattle.ws_model.specs.Legal.{Legal}
 use Rattle.ws_model.specs.View.{OwedPush, owed_push, view}
 use Rattle.ws_laws.specs.Steps.{owed_after}
 use Rattle.ws_delivery.specs.declared.open_pair.OpenPair.{OpenPair}
 use Rattle.ws_delivery.specs.Table.{Rows, owed_at}
-use Rattle.ws_delivery.specs.NextDue.{IsNextDue}
 
 -- what a table shows of an owed pair
 abbrev pub shown : OwedPush → OpenPair

@@ -1,5 +1,5 @@
 -- The open pairs: versions that are owed to leases (WebSub section 7; the retries are own).
-use Rattle.std.specs.Prelude.{◌≡◌, ℕ, ◌<◌, ◌+◌, IsSome, Bool, true, false, cond, List, [], ◌∷◌, length, filter, nat_lt, nat_le, ◌==◌, ◌&&◌, Option, Some, None}
+use Rattle.std.specs.Prelude.{◌≡◌, ℕ, ◌<◌, ◌+◌, IsSome, Bool, cond, List, length, filter, nat_lt, nat_le, ◌==◌, ◌&&◌, Option, Some, None}
 use Rattle.std.specs.Ordering.{nat_cmp, ordering_then}
 use Rattle.std.specs.declared.cmp.Ordering.{Ordering}
 use Rattle.std.specs.Map.{lookup, values_of}

@@ -1,26 +1,25 @@
 // The table of open pairs.
-ghost use Rattle.std.specs.Prelude.{◌≡◌, ◌+◌, ◌<◌, ◌^◌, ℕ, [], None, Some, cond, ◌==◌, ◌&&◌, IsSome, IfSome, IfOk, OnOk, OnErr, IsSomeAnd, length, if◌then◌else◌};
+ghost use Rattle.std.specs.Prelude.{◌≡◌, ◌+◌, ◌<◌, ◌^◌, ℕ, [], None, Some, cond, ◌==◌, ◌&&◌, IsSome, IfSome, IfOk, OnOk, OnErr, IsSomeAnd, MatchOption, length, if◌then◌else◌};
 ghost use Rattle.std.specs.Option.{option_map};
 ghost use Rattle.std.specs.Map.{keys_of};
 ghost use Rattle.std.specs.List.Sorted.{IsStrictlySortedBy};
 ghost use Rattle.ws_delivery.specs.Table.{carried, pair_order, pair_at, is_here, owed_at, fresh, after_miss, fate_after_miss, fate_at, number_of, number_owed};
 ghost use Rattle.ws_delivery.specs.NextDue.{IsNextDue};
 
-use crate::OpenPair;
-use crate::heads::{self, Pairs};
+use crate::ends::{self, Ends};
+use crate::open_pairs::OpenPairs;
 use std::alloc::Global;
 use std::collections::BTreeMap;
 use std::marker::Model;
 use ws_model::{Cause, Fate, Held, NoMemory};
-use ws_order::{Order, Room};
 
 /// The open pairs: versions that are still owed to leases. A contract sees them as a list by lease and
-/// version; an index has the first pair of each lease in the order of next tries.
+/// version. They are found by lease and version; an index has the first pair of each lease in the order
+/// of next tries, and another one the number of pairs by the leases' ends.
 #[derive(Drop)]
 pub struct Deliveries {
-    alloc: Global,
-    pairs: Pairs,
-    heads: Order,
+    pairs: OpenPairs,
+    ends: Ends,
 }
 
 impl Model for Deliveries {
@@ -30,11 +29,11 @@ impl Model for Deliveries {
 
     ghost Value = { List ((ℕ × ℕ) × OpenPair) };
 
-    ghost use Rattle.ws_delivery.specs.Indexed.{IsIndexed};
+    ghost use Rattle.ws_delivery.specs.Indexed.{IsCounted};
 
-    ghost view = { λ s. s.pairs.entries };
+    ghost view = { λ s. s.pairs };
 
-    ghost invariant = { λ s. IsIndexed s.pairs.entries s.heads };
+    ghost invariant = { λ s. IsCounted s.pairs s.ends.entries };
 }
 
 impl Deliveries {
@@ -43,9 +42,8 @@ impl Deliveries {
         ensures { result ≡ [] }
     {
         Deliveries {
-            alloc,
-            pairs: BTreeMap::new(alloc),
-            heads: Order::empty(),
+            pairs: OpenPairs::empty(alloc),
+            ends: BTreeMap::new(alloc),
         }
     }
 
@@ -53,8 +51,18 @@ impl Deliveries {
     pub fn fate(&self, ver: u64, lease: u64, t: u64) -> Option<Fate>
         ensures { result ≡ option_map (fate_at t) (pair_at ver lease self.now) }
     {
-        match self.pairs.get(&(lease, ver)) {
+        match self.pairs.get(ver, lease) {
             Some(pair) => Some(pair.fate(t)),
+            None => None,
+        }
+    }
+
+    /// The end of a lease, as its open pairs have it, where it has one.
+    pub fn end_of(&self, lease: u64) -> Option<u64>
+        ensures { MatchOption result ((v : ℕ) → pair_at v lease self.now ≡ None) (λ exp. (v : ℕ) → IfSome (pair_at v lease self.now) (λ p. p.exp ≡ exp)) }
+    {
+        match self.pairs.first_of(lease) {
+            Some(first) => Some(first.exp),
             None => None,
         }
     }
@@ -68,20 +76,16 @@ impl Deliveries {
         ensures number { OnOk result ((n : ℕ) → number_of n self.new ≡ number_of n self.old + (if lease == n then 1 else 0)) }
         ensures err { OnErr result (self.new ≡ self.old) }
     {
-        let pair = OpenPair::fresh(exp, t);
-        match heads::head_of(&self.pairs, lease) {
-            Some(before) => {
-                self.pairs.insert((lease, ver), pair)?;
-                let after = heads::head_of(&self.pairs, lease);
-                heads::follow(&mut self.heads, before, after);
-            }
-            None => {
-                let room = Room::new(self.alloc)?;
-                self.pairs.insert((lease, ver), pair)?;
-                self.heads.put(heads::try_of(ver, lease, &pair), room);
+        // That a table has few pairs is known from its length.
+        let _ = self.pairs.len();
+        ends::add(&mut self.ends, exp, lease)?;
+        match self.pairs.open(ver, lease, exp, t) {
+            Ok(()) => Ok(()),
+            Err(fault) => {
+                ends::take(&mut self.ends, exp, lease);
+                Err(fault)
             }
         }
-        Ok(())
     }
 
     /// Counts a missed push at `t`: the pair waits for its next try, or is closed as spent at its
@@ -92,7 +96,7 @@ impl Deliveries {
         ensures fate { IsSomeAnd (pair_at ver lease self.old) (λ p. result ≡ fate_after_miss t p) }
         ensures look { IsSomeAnd (pair_at ver lease self.old) (λ p. (v n : ℕ) → pair_at v n self.new ≡ cond (is_here ver lease v n) (after_miss t p) (pair_at v n self.old)) }
     {
-        let Some(pair) = self.pairs.get(&(lease, ver)).copied() else {
+        let Some(pair) = self.pairs.get(ver, lease) else {
             unreachable!()
         };
         if pair.tries >= 7 {
@@ -100,28 +104,10 @@ impl Deliveries {
             return Fate::Ended(Cause::Spent);
         }
         let pair = pair.missed(t);
-        self.change(ver, lease, pair);
+        self.pairs.change(ver, lease, pair);
         Fate::Owed {
             tries: pair.tries,
             next: pair.next,
-        }
-    }
-
-    /// Changes an open pair in its place.
-    fn change(&mut self, ver: u64, lease: u64, pair: OpenPair)
-        requires is_open { IsSomeAnd (pair_at ver lease self.old) (λ p. p.exp ≡ pair.exp) }
-        requires few { pair.tries < 8 }
-        ensures look { (v n : ℕ) → pair_at v n self.new ≡ cond (is_here ver lease v n) (Some pair) (pair_at v n self.old) }
-    {
-        let Some(before) = heads::head_of(&self.pairs, lease) else {
-            unreachable!()
-        };
-        match self.pairs.insert((lease, ver), pair) {
-            Ok(_) => {
-                let after = heads::head_of(&self.pairs, lease);
-                heads::follow(&mut self.heads, before, after);
-            }
-            Err(_) => unreachable!(),
         }
     }
 
@@ -132,12 +118,11 @@ impl Deliveries {
         ensures number { number_of lease self.new + 1 ≡ number_of lease self.old }
         ensures all { length self.new + 1 ≡ length self.old }
     {
-        let Some(before) = heads::head_of(&self.pairs, lease) else {
+        let Some(pair) = self.pairs.get(ver, lease) else {
             unreachable!()
         };
-        let _ = self.pairs.remove(&(lease, ver));
-        let after = heads::head_of(&self.pairs, lease);
-        heads::follow(&mut self.heads, before, after);
+        self.pairs.close(ver, lease);
+        ends::take(&mut self.ends, pair.exp, lease);
     }
 
     /// Closes all open pairs of a lease, and gives their number. It takes no memory.
@@ -147,10 +132,36 @@ impl Deliveries {
         ensures ordered { IsStrictlySortedBy pair_order (keys_of self.new) }
     {
         let before = self.pairs.len();
-        while let Some(first) = heads::head_of(&self.pairs, lease) {
+        while let Some(first) = self.pairs.first_of(lease) {
             self.close(first.ver, lease);
         }
-        (before - self.pairs.len()) as u64
+        before - self.pairs.len()
+    }
+
+    /// Opens afresh at `t`, for a new lease, what is open of an old one, which stays open, and gives the
+    /// number of these pairs. At an error the table is as before.
+    pub fn renew(&mut self, old: u64, new: u64, exp: u64, t: u64) -> Result<u64, NoMemory>
+        requires in_time { t < 2 ^ 48 }
+        requires none { (v : ℕ) → pair_at v new self.old ≡ None }
+        ensures number { IfOk result (λ k. k ≡ number_of old self.old) }
+        ensures look { OnOk result ((v n : ℕ) → pair_at v n self.new ≡ cond (new == n) (carried exp t (pair_at v old self.old)) (pair_at v n self.old)) }
+        ensures err { OnErr result (self.new ≡ self.old) }
+    {
+        let Some(first) = self.pairs.first_of(old) else {
+            return Ok(0);
+        };
+        let number = ends::number_of(&self.ends, first.exp, old);
+        let mut next = Some(first.ver);
+        while let Some(ver) = next {
+            match self.born(ver, new, exp, t) {
+                Ok(()) => next = self.pairs.open_after(old, ver),
+                Err(fault) => {
+                    self.close_lease(new);
+                    return Err(fault);
+                }
+            }
+        }
+        Ok(number)
     }
 
     /// Opens afresh at `t`, for a new lease, what is open of an old one, and closes that; it gives the
@@ -162,27 +173,17 @@ impl Deliveries {
         ensures look { OnOk result ((v n : ℕ) → pair_at v n self.new ≡ cond (new == n) (carried exp t (pair_at v old self.old)) (cond (old == n) None (pair_at v n self.old))) }
         ensures err { OnErr result (self.new ≡ self.old) }
     {
-        let mut next = match heads::head_of(&self.pairs, old) {
-            Some(first) => Some(first.ver),
-            None => None,
-        };
-        while let Some(ver) = next {
-            match self.born(ver, new, exp, t) {
-                Ok(()) => next = heads::open_after(&self.pairs, old, ver),
-                Err(fault) => {
-                    self.close_lease(new);
-                    return Err(fault);
-                }
-            }
-        }
-        Ok(self.close_lease(old))
+        let number = self.renew(old, new, exp, t)?;
+        self.close_lease(old);
+        Ok(number)
     }
 
-    /// How many pairs are owed at `t`. It looks at each open pair.
+    /// How many pairs are owed at `t`. It goes over the leases that have ended by then and whose pairs
+    /// aren't closed.
     pub fn owed(&self, t: u64) -> u64
         ensures { result ≡ number_owed t self.now }
     {
-        self.pairs.values().filter(|pair| t < pair.exp).count() as u64
+        ends::number_after(&self.ends, self.pairs.len(), t)
     }
 
     /// The version and the lease of the push that is due first at `t`, but those whose tickets are out:
@@ -190,9 +191,6 @@ impl Deliveries {
     pub fn next_due(&self, t: u64, held: &Held) -> Option<(u64, u64)>
         ensures { IsNextDue t held.now self.now result }
     {
-        match self.heads.first_ready(t, held) {
-            Some(first) => Some((first.ver, first.lease)),
-            None => None,
-        }
+        self.pairs.next_due(t, held)
     }
 }

@@ -95,3 +95,21 @@ fn lower_version_first(rt: HostRuntime) -> Result<(), Fail> {
     assert_eq!(rt; table.next_due(1_011, &none), Some((1, 1)));
     Ok(())
 }
+
+// A lease that is renewed keeps its pairs until they are closed; each counts until its lease's end.
+#[test]
+fn renewed_lease_stays_open(rt: HostRuntime) -> Result<(), Fail> {
+    let mut table = Deliveries::empty(rt.alloc());
+    table.born(1, 1, 5_000, 1_000)?;
+    table.born(4, 1, 5_000, 1_500)?;
+    assert_eq!(rt; table.fate(1, 3, 2_000), None);
+    assert_eq!(rt; table.close_lease(3), 0);
+    assert_eq!(rt; table.renew(1, 3, 9_000, 2_000)?, 2);
+    for (t, owed) in [(4_999, 4), (5_000, 2), (8_999, 2), (9_000, 0)] {
+        assert_eq!(rt; table.owed(t), owed);
+    }
+    assert_eq!(rt; table.close_lease(1), 2);
+    assert_eq!(rt; table.owed(4_999), 2);
+    assert_eq!(rt; table.renew(1, 5, 9_000, 2_000)?, 0);
+    Ok(())
+}

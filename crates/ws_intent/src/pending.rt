@@ -1,5 +1,5 @@
 // The pending intents by number, with an index of their topics and callbacks and a list of the first ones.
-ghost use Rattle.std.specs.Prelude.{◌≡◌, ◌≤◌, ◌<◌, ◌+◌, ◌&&◌, not, [], ℕ, List, OnOk, OnErr, IfOk, IsSome, Some, None, true, false, length, find, option_map, cond, ◌==◌, bytes_eq};
+ghost use Rattle.std.specs.Prelude.{◌≡◌, ◌≤◌, ◌<◌, ◌+◌, ◌&&◌, not, [], ℕ, List, OnOk, OnErr, IfOk, IsSome, MatchOption, Some, None, true, false, length, find, option_map, cond, ◌==◌, bytes_eq};
 ghost use Rattle.std.specs.Option.{option_copied};
 ghost use Rattle.std.specs.List.{sum_by};
 ghost use Rattle.std.specs.Map.{values_of};
@@ -64,6 +64,16 @@ impl Pending {
         ensures keyed { IsKeyed (λ w. w.intent) self.now }
     {
         self.by_number.len() as u64
+    }
+
+    /// The greatest number.
+    pub fn last(&self) -> Option<u64>
+        ensures { MatchOption result ((q : ℕ) → number_at q self.now ≡ None) (λ n. (q : ℕ) → IsSome (number_at q self.now) → q ≤ n) }
+    {
+        match self.by_number.last_key_value() {
+            Some((n, _)) => Some(*n),
+            None => None,
+        }
     }
 
     /// How many of them ask to subscribe.

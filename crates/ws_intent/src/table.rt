@@ -1,5 +1,5 @@
 // The table of intents.
-ghost use Rattle.std.specs.Prelude.{◌≡◌, ◌<◌, ◌∷◌, ◌++◌, [], not, ℕ, List, OnOk, OnErr, IsSome, Some, None, find, filter, length, option_map, cond, ◌==◌};
+ghost use Rattle.std.specs.Prelude.{◌≡◌, ◌<◌, ◌∷◌, ◌++◌, [], not, ℕ, List, OnOk, OnErr, IsSome, MatchOption, ◌≤◌, Some, None, find, filter, length, option_map, cond, ◌==◌};
 ghost use Rattle.std.specs.Option.{option_copied};
 ghost use Rattle.std.specs.List.{sum_by};
 ghost use Rattle.std.specs.Map.{values_of};
@@ -196,6 +196,13 @@ impl Intents {
         ensures stands { (h : List Event) → StandsFor self.now h → Legal h → result ≡ length (pending h) }
     {
         self.pending.count()
+    }
+
+    /// The greatest number of a pending intent.
+    pub fn last(&self) -> Option<u64>
+        ensures { MatchOption result ((q : ℕ) → number_at q self.now.pending ≡ None) (λ n. (q : ℕ) → IsSome (number_at q self.now.pending) → q ≤ n) }
+    {
+        self.pending.last()
     }
 
     /// How many pending intents ask to subscribe.

@@ -72,6 +72,13 @@ impl Leases {
         }
     }
 
+    /// Whether a lease of this number is held, be it live or not.
+    pub fn holds(&self, n: u64) -> bool
+        ensures { result ≡ is_some (lease_at n self.now) }
+    {
+        self.by_number.contains_key(&n)
+    }
+
     /// Whether the lease of a number is live at `t`.
     pub fn live(&self, n: u64, t: u64) -> bool
         requires { t < 2 ^ 48 }

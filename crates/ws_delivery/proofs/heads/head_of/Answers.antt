@@ -1,4 +1,4 @@
-use Rattle.std.proofs.Common.{◌≡◌, true, ap, sym, ◌∙◌}
+use Rattle.std.proofs.Common.{ap, sym, ◌∙◌}
 use Rattle.std.specs.Prelude.{cond, Some, None}
 use Rattle.ws_delivery.specs.Indexed.{try_of}
 use Rattle.ws_delivery.proofs.RowsByKey.{ascends, first_at, none_at, is_eq, is_ne}

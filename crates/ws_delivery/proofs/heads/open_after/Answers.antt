@@ -1,4 +1,4 @@
-use Rattle.std.proofs.Common.{◌≡◌, ap, sym, ◌∙◌, subst}
+use Rattle.std.proofs.Common.{sym, ◌∙◌, subst}
 use Rattle.std.specs.Prelude.{cond, Some, None}
 use Rattle.ws_delivery.specs.Table.{IsNextOpen}
 use Rattle.ws_delivery.proofs.RowsByKey.{ascends, next_at, none_after, is_eq, is_ne}

@@ -1,7 +1,7 @@
-use Rattle.std.proofs.Common.{◌≡◌, sym, ◌∙◌, subst}
+use Rattle.std.proofs.Common.{sym, ◌∙◌, subst}
 use Rattle.ws_delivery.specs.NextDue.{IsFirstDue, IsDue}
 use Rattle.ws_delivery.proofs.FirstDue.{first_due, none_due}
-use Rattle.ws_delivery.proofs.table.Deliveries.next_due.Goals as goal
+use Rattle.ws_delivery.proofs.open_pairs.OpenPairs.next_due.Goals as goal
 
 pub returns-in-Some : goal.returns-in-Some
 returns-in-Some c =

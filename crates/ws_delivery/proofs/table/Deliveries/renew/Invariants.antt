@@ -1,5 +1,5 @@
 use Rattle.ws_delivery.proofs.Carrying.{IsCarried, number_left}
-use Rattle.ws_delivery.proofs.table.Deliveries.carry.Given as goal
+use Rattle.ws_delivery.proofs.table.Deliveries.renew.Given as goal
 
 abbrev pub invariant-loop-next : goal.invariant-loop-next
 invariant-loop-next l = IsCarried l.exp l.t l.old l.new l.fn.self l.self l.next

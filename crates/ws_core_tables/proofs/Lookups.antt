@@ -7,6 +7,9 @@ use Rattle.std.proofs.lemmas.Bool.{and_parts, eqb-true, false≢true, leb-true, 
 use Rattle.ws_model.specs.declared.event.Event.{Event}
 use Rattle.ws_model.specs.declared.event.Intent.{Intent}
 use Rattle.ws_model.specs.declared.event.Version.{Version}
+use Rattle.ws_model.specs.declared.lease.Lease.{Lease}
+use Rattle.ws_model.specs.Leases.{live}
+use Rattle.ws_lease.specs.Stands.{is_numbered, live_numbered}
 use Rattle.ws_model.specs.declared.event.Tally.{Tally as TallyFields}
 use Rattle.ws_model.specs.declared.event.What.{What}
 use Rattle.ws_model.specs.declared.event.What.TheVariants.{Asked, Confirmed, Declined, Unheard, Barred, Noticed, Pinged, Fetched, Same, Unfetched, Pushed, Tally, Revoked}
@@ -17,7 +20,7 @@ use Rattle.ws_model.specs.Versions.{versions, latest_of}
 use Rattle.ws_model.specs.View.{owed_notice, owed_push}
 use Rattle.ws_laws.proofs.Follow.{any_map, some_found}
 use Rattle.ws_laws.proofs.Known.{allowed, asked_le}
-use Rattle.ws_laws.proofs.ListLaws.{all_filter, all_find, find-map}
+use Rattle.ws_laws.proofs.ListLaws.{all_filter, all_find, all_from, find-map}
 use Rattle.ws_model.specs.Moment.{last_intent, last_serial, last_time}
 use Rattle.ws_laws.proofs.Step.{named_pending}
 use Rattle.ws_laws.specs.Steps.{found}
@@ -143,3 +146,7 @@ order_in_time e h k = by (nat_lt (last_serial h) e.serial) (nat_lt e.serial numb
 
 pub since_in_time : (since t last : ℕ) → since ≤ max t last → last ≤ t → since ≤ t
 since_in_time since t last k l = omega arith
+
+-- a live lease is found by its own number
+pub live_number : (h : List Event) (t n : ℕ) (l : Lease) → Some l ≡ live_numbered h t n → l.intent.n ≡ n
+live_number h t n l k = eqb-true l.intent.n n (all_find (λ _. Unit {0}) (is_numbered n) l (live h t) (all_from (λ _. Unit {0}) (λ _. tt) (live h t)) (sym k)).1

@@ -1,10 +1,19 @@
 -- An event that one table alone keeps leaves the others as they are.
-use Rattle.std.proofs.Common.{◌≡◌, ℕ, ◌≤◌, true, false, List, ◌∷◌, refl, ap, subst, ◌∙◌}
-use Rattle.std.proofs.lemmas.Bool.{false≢true}
+use Rattle.std.proofs.Common.{◌≡◌, ℕ, ◌≤◌, true, false, List, ◌∷◌, refl, ap, subst, ◌∙◌, sym}
+use Rattle.std.specs.Prelude.{IfSome, ◌==◌}
+use Rattle.std.proofs.lemmas.Bool.{eqb-true, false≢true}
+use Rattle.std.proofs.lemmas.Option.{IfSome_then}
 use Rattle.ws_model.specs.declared.event.Event.{Event}
+use Rattle.ws_model.specs.declared.event.How.{How}
 use Rattle.ws_model.specs.declared.event.What.{What}
 use Rattle.ws_model.specs.declared.event.What.TheVariants.{Asked, Confirmed, Declined, Unheard, Barred, Noticed, Pinged, Fetched, Same, Unfetched, Pushed, Tally, Revoked}
+use Rattle.ws_model.specs.History.{has}
+use Rattle.ws_model.specs.Leases.{confirmed_intent, is_confirmed, lease_of, leases}
 use Rattle.ws_model.specs.Legal.{Legal}
+use Rattle.ws_model.specs.Versions.{is_fetched}
+use Rattle.ws_laws.proofs.Ended.{others, skipped}
+use Rattle.ws_laws.proofs.Known.{IsOfConfirmed, has_later, leases_confirmed}
+use Rattle.ws_laws.proofs.ListLaws.{all_find}
 use Rattle.ws_intent.specs.Rows.{Rows as IntentRows}
 use Rattle.ws_intent.specs.Stands.{StandsFor as IntentsStand, is_other as leaves_intents}
 use Rattle.ws_intent.proofs.Standing.{others_stand as intents_stand_on}
@@ -15,18 +24,38 @@ use Rattle.ws_lease.proofs.WhichEvents.{others_leave}
 use Rattle.ws_topic.specs.Rows.{Rows as TopicRows}
 use Rattle.ws_topic.specs.Stands.{StandsFor as TopicsStand, is_other as leaves_topics}
 use Rattle.ws_topic.proofs.Changes.{others_stand as topics_stand_on}
-use Rattle.ws_delivery.specs.Stands.{is_quiet}
+use Rattle.ws_delivery.specs.declared.open_pair.OpenPair.{OpenPair}
+use Rattle.ws_delivery.specs.Table.{Rows as DeliveryRows, pair_at}
+use Rattle.ws_delivery.specs.Stands.{StandsFor as DeliveriesStand, is_quiet}
 use Rattle.ws_delivery.proofs.Standing.{stands_on as deliveries_stand_on}
 use Rattle.ws_core_tables.specs.declared.numbers.Numbers.{Numbers}
 use Rattle.ws_core_tables.specs.Numbers.{numbers_of, with_event}
 use Rattle.ws_core_tables.specs.Rows.{Rows}
-use Rattle.ws_core_tables.specs.Stands.{GoesOn, is_of_intents, is_of_topics}
+use Rattle.ws_core_tables.specs.Stands.{GoesOn, IsOfHistory, is_of_intents, is_of_topics}
 
 pub numbers_on : (e : Event) (h : List Event) (n m : Numbers) → n ≡ numbers_of h → m ≡ with_event e n → m ≡ numbers_of (e ∷ h)
 numbers_on e h n m k l = l ∙ ap (with_event e) k
 
 pub leases_on : (e : Event) (h : List Event) (since : ℕ) (rows : LeaseRows) → touches_leases e.what ≡ false → LeasesStand h since rows → Legal (e ∷ h) → since ≤ e.t → LeasesStand (e ∷ h) e.t rows
 leases_on e h since rows kind s l k = leases_stand_on rows h e since s k l (others_leave h e kind)
+
+-- ---- the open pairs
+
+pub of_history_on : (e : Event) (h : List Event) (v n : ℕ) (p : OpenPair) → Legal (e ∷ h) → IsOfHistory h v n p → IsOfHistory (e ∷ h) v n p
+of_history_on e h v n p l o =
+    let told = all_find (IsOfConfirmed h) (λ x. x.intent.n == n) o.lease (leases h) (leases_confirmed h) o.leased in
+    let confirmed = subst (λ m. has (is_confirmed m) h ≡ true) (eqb-true o.lease.intent.n n told.1) told.0 in
+    record {
+      fetched = has_later e h (is_fetched v) o.fetched;
+      lease = o.lease;
+      leased = skipped n (lease_of e.what (confirmed_intent e.what h)) (leases h) (others e h l.1 n confirmed) ∙ o.leased;
+      end = o.end;
+    }
+
+pub pairs_on : (e : Event) (h : List Event) (rows : DeliveryRows) → Legal (e ∷ h) → ((v n : ℕ) → IfSome (pair_at v n rows) (IsOfHistory h v n)) → (v n : ℕ) → IfSome (pair_at v n rows) (IsOfHistory (e ∷ h) v n)
+pairs_on e h rows l f v n = IfSome_then (pair_at v n rows) (f v n) (λ p o. of_history_on e h v n p l o)
+
+-- ---- one table
 
 -- what an event of the table of intents leaves
 intents_alone : (w : What) → is_of_intents w ≡ true → (touches_leases w ≡ false) × (leaves_topics w ≡ true) × (is_quiet w ≡ true)
@@ -54,6 +83,7 @@ by_intents e old intents numbers kind n f h since s l k =
       leases = leases_on e h since old.leases (intents_alone e.what kind).0 s.leases l k;
       topics = topics_stand_on old.topics h e s.topics (intents_alone e.what kind).1;
       deliveries = deliveries_stand_on h e since old.deliveries l (intents_alone e.what kind).2 k s.deliveries;
+      pairs = pairs_on e h old.deliveries l s.pairs;
       numbers = numbers_on e h old.numbers numbers s.numbers n;
     }
 
@@ -83,9 +113,48 @@ by_topics e old topics numbers kind n f h since s l k =
       leases = leases_on e h since old.leases (topics_alone e.what kind).0 s.leases l k;
       topics = f h s.topics l;
       deliveries = deliveries_stand_on h e since old.deliveries l (topics_alone e.what kind).2 k s.deliveries;
+      pairs = pairs_on e h old.deliveries l s.pairs;
       numbers = numbers_on e h old.numbers numbers s.numbers n;
     }
 
 -- what a table shows is what stands inside
 pub from_shown : (e : Event) (inside shown new : Rows) → inside ≡ shown → GoesOn e inside new → GoesOn e shown new
 from_shown e inside shown new k g = subst (λ (r : Rows). GoesOn e r new) k g
+
+-- ---- a push
+
+-- an event that no table but those of leases and deliveries keeps
+pub by_pushes :
+    (e : Event) (old : Rows) (leases : LeaseRows) (deliveries : DeliveryRows) (numbers : Numbers) (v n : ℕ) (how : How) → e.what ≡ Pushed v n how → numbers ≡ with_event e old.numbers
+    → ((h : List Event) (since : ℕ) → LeasesStand h since old.leases → Legal (e ∷ h) → since ≤ e.t → LeasesStand (e ∷ h) e.t leases)
+    → ((h : List Event) (since : ℕ) → DeliveriesStand h since old.deliveries → Legal (e ∷ h) → since ≤ e.t → DeliveriesStand (e ∷ h) e.t deliveries)
+    → ((h : List Event) → ((v n : ℕ) → IfSome (pair_at v n old.deliveries) (IsOfHistory h v n)) → (v n : ℕ) → IfSome (pair_at v n deliveries) (IsOfHistory h v n))
+    → GoesOn e old (record { intents = old.intents; leases = leases; topics = old.topics; deliveries = deliveries; numbers = numbers })
+by_pushes e old leases deliveries numbers v n how kind m f g p h since s l k =
+    record {
+      intents = intents_stand_on old.intents h e s.intents (subst (λ (w : What). leaves_intents w ≡ true) (sym kind) refl);
+      leases = f h since s.leases l k;
+      topics = topics_stand_on old.topics h e s.topics (subst (λ (w : What). leaves_topics w ≡ true) (sym kind) refl);
+      deliveries = g h since s.deliveries l k;
+      pairs = pairs_on e h deliveries l (p h s.pairs);
+      numbers = numbers_on e h old.numbers numbers s.numbers m;
+    }
+
+-- ---- a revocation
+
+pub by_revocation :
+    (e : Event) (old : Rows) (intents : IntentRows) (leases : LeaseRows) (deliveries : DeliveryRows) (numbers : Numbers) (n : ℕ) (reason : List ℕ) → e.what ≡ Revoked n reason → numbers ≡ with_event e old.numbers
+    → ((h : List Event) (since : ℕ) → IntentsStand old.intents h → LeasesStand h since old.leases → Legal (e ∷ h) → since ≤ e.t → IntentsStand intents (e ∷ h))
+    → ((h : List Event) (since : ℕ) → LeasesStand h since old.leases → Legal (e ∷ h) → since ≤ e.t → LeasesStand (e ∷ h) e.t leases)
+    → ((h : List Event) (since : ℕ) → DeliveriesStand h since old.deliveries → Legal (e ∷ h) → since ≤ e.t → DeliveriesStand (e ∷ h) e.t deliveries)
+    → ((h : List Event) → ((v n : ℕ) → IfSome (pair_at v n old.deliveries) (IsOfHistory h v n)) → (v n : ℕ) → IfSome (pair_at v n deliveries) (IsOfHistory h v n))
+    → GoesOn e old (record { intents = intents; leases = leases; topics = old.topics; deliveries = deliveries; numbers = numbers })
+by_revocation e old intents leases deliveries numbers n reason kind m i f g p h since s l k =
+    record {
+      intents = i h since s.intents s.leases l k;
+      leases = f h since s.leases l k;
+      topics = topics_stand_on old.topics h e s.topics (subst (λ (w : What). leaves_topics w ≡ true) (sym kind) refl);
+      deliveries = g h since s.deliveries l k;
+      pairs = pairs_on e h deliveries l (p h s.pairs);
+      numbers = numbers_on e h old.numbers numbers s.numbers m;
+    }

@@ -1,26 +1,41 @@
 -- For which history the tables stand (own).
-use Rattle.std.specs.Prelude.{◌≡◌, ℕ, ◌≤◌, Bool, true, false, List, [], ◌∷◌, Option, Some, None}
+use Rattle.std.specs.Prelude.{◌≡◌, ℕ, ◌≤◌, Bool, true, false, List, [], ◌∷◌, Option, Some, None, IfSome, find, ◌==◌}
 use Rattle.ws_model.specs.declared.event.Event.{Event}
 use Rattle.ws_model.specs.declared.event.What.{What}
 use Rattle.ws_model.specs.declared.event.What.TheVariants.{Asked, Declined, Unheard, Barred, Noticed, Pinged, Same, Unfetched}
 use Rattle.ws_model.specs.declared.work.Work.{Work}
 use Rattle.ws_model.specs.declared.work.Work.TheVariants.{Verify, Notice, Fetch, Push}
+use Rattle.ws_model.specs.declared.lease.Lease.{Lease}
+use Rattle.ws_model.specs.History.{has}
+use Rattle.ws_model.specs.Leases.{expiry, leases}
 use Rattle.ws_model.specs.Legal.{Legal}
+use Rattle.ws_model.specs.Versions.{is_fetched}
 use Rattle.ws_intent.specs.Stands.{StandsFor as IntentsStand}
 use Rattle.ws_lease.specs.Stands.{StandsFor as LeasesStand}
 use Rattle.ws_topic.specs.Stands.{StandsFor as TopicsStand}
+use Rattle.ws_delivery.specs.declared.open_pair.OpenPair.{OpenPair}
+use Rattle.ws_delivery.specs.Table.{pair_at}
 use Rattle.ws_delivery.specs.Stands.{StandsFor as DeliveriesStand}
 use Rattle.ws_core_tables.specs.declared.due.DueWork.{DueWork}
 use Rattle.ws_core_tables.specs.declared.due.DueWork.TheVariants.{Verify as DueVerify, Notice as DueNotice, Fetch as DueFetch, Push as DuePush}
 use Rattle.ws_core_tables.specs.Numbers.{numbers_of}
 use Rattle.ws_core_tables.specs.Rows.{Rows}
 
--- From the moment `since` on each table stands for the history, and the numbers are the history's.
+-- the version of an open pair was fetched, and its end is that of its lease
+pub record IsOfHistory (h : List Event) (v n : ℕ) (p : OpenPair) : Type 0 where
+  pub fetched : has (is_fetched v) h ≡ true
+  pub lease : Lease
+  pub leased : find (λ l. l.intent.n == n) (leases h) ≡ Some lease
+  pub end : p.exp ≡ expiry lease
+
+-- From the moment `since` on each table stands for the history, and the numbers are the history's. All
+-- open pairs, also those whose leases have expired, are of its versions and leases.
 pub record StandsFor (h : List Event) (since : ℕ) (rows : Rows) : Type 0 where
   pub intents : IntentsStand rows.intents h
   pub leases : LeasesStand h since rows.leases
   pub topics : TopicsStand rows.topics h
   pub deliveries : DeliveriesStand h since rows.deliveries
+  pub pairs : (v n : ℕ) → IfSome (pair_at v n rows.deliveries) (IsOfHistory h v n)
   pub numbers : rows.numbers ≡ numbers_of h
 
 -- what stands for a history goes over to what stands for the history with the event

@@ -5,6 +5,7 @@
 mod allowing;
 mod applying;
 mod due;
+mod ending;
 mod numbers;
 mod tables;
 

@@ -2,3 +2,4 @@ pub mod Lookups
 pub mod Onward
 pub mod FirstDue
 pub mod Stepped
+pub mod Confirmation

@@ -4,6 +4,7 @@ use Rattle.std.specs.Prelude.{IfSome, ◌==◌}
 use Rattle.std.proofs.lemmas.Bool.{eqb-true, false≢true}
 use Rattle.std.proofs.lemmas.Option.{IfSome_then}
 use Rattle.ws_model.specs.declared.event.Event.{Event}
+use Rattle.ws_model.specs.declared.event.Tally.{Tally as TallyFields}
 use Rattle.ws_model.specs.declared.event.How.{How}
 use Rattle.ws_model.specs.declared.event.What.{What}
 use Rattle.ws_model.specs.declared.event.What.TheVariants.{Asked, Confirmed, Declined, Unheard, Barred, Noticed, Pinged, Fetched, Same, Unfetched, Pushed, Tally, Revoked}
@@ -31,7 +32,7 @@ use Rattle.ws_delivery.proofs.Standing.{stands_on as deliveries_stand_on}
 use Rattle.ws_core_tables.specs.declared.numbers.Numbers.{Numbers}
 use Rattle.ws_core_tables.specs.Numbers.{numbers_of, with_event}
 use Rattle.ws_core_tables.specs.Rows.{Rows}
-use Rattle.ws_core_tables.specs.Stands.{GoesOn, IsOfHistory, is_of_intents, is_of_topics}
+use Rattle.ws_core_tables.specs.Stands.{GoesOn, IsOfHistory, StandsFor, is_of_intents, is_of_topics}
 
 pub numbers_on : (e : Event) (h : List Event) (n m : Numbers) → n ≡ numbers_of h → m ≡ with_event e n → m ≡ numbers_of (e ∷ h)
 numbers_on e h n m k l = l ∙ ap (with_event e) k
@@ -156,5 +157,39 @@ by_revocation e old intents leases deliveries numbers n reason kind m i f g p h 
       topics = topics_stand_on old.topics h e s.topics (subst (λ (w : What). leaves_topics w ≡ true) (sym kind) refl);
       deliveries = g h since s.deliveries l k;
       pairs = pairs_on e h deliveries l (p h s.pairs);
+      numbers = numbers_on e h old.numbers numbers s.numbers m;
+    }
+
+-- ---- a Tally
+
+pub by_tally : (e : Event) (old : Rows) (numbers : Numbers) (c : TallyFields) → e.what ≡ Tally c → numbers ≡ with_event e old.numbers
+    → GoesOn e old (record { intents = old.intents; leases = old.leases; topics = old.topics; deliveries = old.deliveries; numbers = numbers })
+by_tally e old numbers c kind m h since s l k =
+    record {
+      intents = intents_stand_on old.intents h e s.intents (subst (λ (w : What). leaves_intents w ≡ true) (sym kind) refl);
+      leases = leases_on e h since old.leases (subst (λ (w : What). touches_leases w ≡ false) (sym kind) refl) s.leases l k;
+      topics = topics_stand_on old.topics h e s.topics (subst (λ (w : What). leaves_topics w ≡ true) (sym kind) refl);
+      deliveries = deliveries_stand_on h e since old.deliveries l (subst (λ (w : What). is_quiet w ≡ true) (sym kind) refl) k s.deliveries;
+      pairs = pairs_on e h old.deliveries l s.pairs;
+      numbers = numbers_on e h old.numbers numbers s.numbers m;
+    }
+
+-- ---- a confirmation
+
+pub by_confirmation :
+    (e : Event) (old : Rows) (intents : IntentRows) (leases : LeaseRows) (topics : TopicRows) (deliveries : DeliveryRows) (numbers : Numbers) (n sent : ℕ) → e.what ≡ Confirmed n sent
+    → numbers ≡ with_event e old.numbers → topics ≡ old.topics
+    → ((h : List Event) → IntentsStand old.intents h → Legal (e ∷ h) → IntentsStand intents (e ∷ h))
+    → ((h : List Event) (since : ℕ) → StandsFor h since old → Legal (e ∷ h) → since ≤ e.t → LeasesStand (e ∷ h) e.t leases)
+    → ((h : List Event) (since : ℕ) → StandsFor h since old → Legal (e ∷ h) → since ≤ e.t → DeliveriesStand (e ∷ h) e.t deliveries)
+    → ((h : List Event) (since : ℕ) → StandsFor h since old → Legal (e ∷ h) → since ≤ e.t → (v n : ℕ) → IfSome (pair_at v n deliveries) (IsOfHistory (e ∷ h) v n))
+    → GoesOn e old (record { intents = intents; leases = leases; topics = topics; deliveries = deliveries; numbers = numbers })
+by_confirmation e old intents leases topics deliveries numbers n sent kind m same i f g p h since s l k =
+    record {
+      intents = i h s.intents l;
+      leases = f h since s l k;
+      topics = topics_stand_on topics h e (subst (λ (r : TopicRows). TopicsStand r h) (sym same) s.topics) (subst (λ (w : What). leaves_topics w ≡ true) (sym kind) refl);
+      deliveries = g h since s l k;
+      pairs = p h since s l k;
       numbers = numbers_on e h old.numbers numbers s.numbers m;
     }

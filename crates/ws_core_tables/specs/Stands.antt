@@ -75,3 +75,8 @@ is_of_topics (Pinged topic) = true
 is_of_topics (Same topic upto) = true
 is_of_topics (Unfetched topic upto why) = true
 is_of_topics _ = false
+
+-- it is this number
+abbrev pub is_number : Option ℕ → ℕ → Bool
+is_number None n = false
+is_number (Some m) n = m == n

@@ -1,12 +1,12 @@
 // What happened, applied to the tables: the kinds that one table alone keeps.
 ghost use Rattle.std.specs.Prelude.{◌≡◌, OnOk, OnErr, true};
-ghost use Rattle.ws_model.specs.declared.event.What.TheVariants.{Asked, Barred, Pinged, Same, Unfetched};
+ghost use Rattle.ws_model.specs.declared.event.What.TheVariants.{Asked, Barred, Pinged, Same, Unfetched, Tally as TallyOf};
 ghost use Rattle.ws_intent.specs.Stands.{IsSettling};
 ghost use Rattle.ws_core_tables.specs.Stands.{CanFollow, GoesOn, is_of_intents};
 
 use crate::Tables;
 use ws_intent::Settle;
-use ws_model::{Bytes, Event, Intent, Key, NoMemory};
+use ws_model::{Bytes, Event, Intent, Key, NoMemory, Tally};
 
 impl Tables {
     /// A request was accepted.
@@ -69,6 +69,14 @@ impl Tables {
         ensures stands { GoesOn event.now self.old self.new }
     {
         self.topics.unfetched(topic.as_slice(), upto);
+        self.numbers = self.numbers.after(event);
+    }
+
+    /// The head of a compacted history.
+    pub(crate) fn tallied(&mut self, event: &Event, _tally: &Tally)
+        requires kind { event.now.what ≡ TallyOf _tally.now }
+        ensures stands { GoesOn event.now self.old self.new }
+    {
         self.numbers = self.numbers.after(event);
     }
 }

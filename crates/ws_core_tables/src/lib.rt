@@ -4,6 +4,7 @@
 
 mod allowing;
 mod applying;
+mod confirming;
 mod due;
 mod ending;
 mod numbers;

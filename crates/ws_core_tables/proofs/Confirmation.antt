@@ -1,18 +1,15 @@
 -- What a confirmation does to the live leases and to what is owed to them.
-use Rattle.std.proofs.Common.{◌≡◌, ℕ, ◌≤◌, Bool, true, false, not, cond, ◌&&◌, List, [], ◌∷◌, refl, ap, sym, ◌∙◌, subst}
-use Rattle.std.specs.Prelude.{nat_le, is_none, is_some, suc, Option, Some, None, IfSome, IsSomeAnd, MatchOption, find, filter, map, ◌==◌}
-use Rattle.std.specs.List.{AllByRecursion}
+use Rattle.std.proofs.Common.{◌≡◌, ℕ, ◌≤◌, Bool, true, false, not, cond, List, [], ◌∷◌, refl, ap, sym, ◌∙◌}
+use Rattle.std.specs.Prelude.{is_none, is_some, Option, Some, None, IfSome, IsSomeAnd, MatchOption, find, ◌==◌}
 use Rattle.std.specs.Option.{option_map}
-use Rattle.std.proofs.lemmas.Bool.{eqb-true, false≢true, false_from_ne_true}
+use Rattle.std.proofs.lemmas.Bool.{eqb-true, false_from_ne_true}
 use Rattle.ws_model.specs.declared.event.Event.{Event}
 use Rattle.ws_model.specs.declared.event.Intent.{Intent}
-use Rattle.ws_model.specs.declared.event.What.{What}
 use Rattle.ws_model.specs.declared.event.What.TheVariants.{Confirmed}
-use Rattle.ws_model.specs.declared.fate.Cause.{Cause}
 use Rattle.ws_model.specs.declared.fate.Cause.TheVariants.{Unsubscribed}
 use Rattle.ws_model.specs.declared.lease.Lease.{Lease}
 use Rattle.ws_model.specs.Fate.{fate, is_owed}
-use Rattle.ws_model.specs.Intents.{asked, is_pending_number, pending, same_pair}
+use Rattle.ws_model.specs.Intents.{asked, is_pending_number, same_pair}
 use Rattle.ws_model.specs.Leases.{confirmed_intent, end_by_mode, is_on, live}
 use Rattle.ws_model.specs.Legal.{Legal, pending_of}
 use Rattle.ws_model.specs.Moment.{last_time}
@@ -33,7 +30,7 @@ use Rattle.ws_lease.proofs.WhichEvents.{unsubscription_ends, unsubscription_leav
 use Rattle.ws_delivery.specs.Table.{Rows, pair_at}
 use Rattle.ws_delivery.specs.Stands.{StandsFor, is_pair, shown}
 use Rattle.ws_core_tables.specs.Stands.{is_number}
-use Rattle.ws_core_tables.proofs.Stepped.{IsAt, closed_stands, pushes}
+use Rattle.ws_core_tables.proofs.Stepped.{closed_stands, pushes}
 
 -- the intent that is confirmed
 pub confirmed_is : (e : Event) (h : List Event) (n sent : ℕ) (i : Intent) → e.what ≡ Confirmed n sent → Some i ≡ pending_of h n → confirmed_intent e.what h ≡ Some i
@@ -86,7 +83,7 @@ unsubscription_does h e n sent i l kind is off = by (live_lease_of h e.t i.topic
     by (Some y) m = unsubscription_ends h e n sent i y l kind is off m
 
 -- which owed pairs it leaves
-stays_confirmed : (e : Event) (h : List Event) (n sent : ℕ) (i : Intent) (x : OwedPush) → e.what ≡ Confirmed n sent → confirmed_intent e.what h ≡ Some i → stays_owed e.what (confirmed_intent e.what h) x ≡ not (same_pair i x.lease.intent)
+pub stays_confirmed : (e : Event) (h : List Event) (n sent : ℕ) (i : Intent) (x : OwedPush) → e.what ≡ Confirmed n sent → confirmed_intent e.what h ≡ Some i → stays_owed e.what (confirmed_intent e.what h) x ≡ not (same_pair i x.lease.intent)
 stays_confirmed e h n sent i x kind is = ap (λ o. stays_owed e.what o x) is ∙ ap (λ w. stays_owed w (Some i) x) kind ∙ by (same_pair i x.lease.intent)
   where
     by : (b : Bool) → is_none (cond b (Some (end_by_mode i.mode)) None) ≡ not b
@@ -101,11 +98,12 @@ unsubscription_stands e h since old new n sent i kind is off l s k look =
     closed_stands e h since old new (λ w m. is_number (option_map (λ l. l.intent.n) (live_lease_of h e.t i.topic i.callback)) m) l s k
     (ap (λ o. new_pushes e.t e.what o (view h e.t)) is ∙ ap (λ w. new_pushes e.t w (Some i) (view h e.t)) kind ∙ none)
     look
-    (λ w m x f a.
-        (stays_confirmed e h n sent i x kind is
-        ∙ ap not (pair_by_number h e.t i x.lease.intent.n x.lease l.0 (in_time h e l.1) (push_lives h e.t w m x l.0 f)
-        ∙ ap (is_number (option_map (λ l. l.intent.n) (live_lease_of h e.t i.topic i.callback))) a.lease),
-        ap (λ z. shown (after_miss e.t z x)) kind))
+    (λ w m x f a. (
+      stays_confirmed e h n sent i x kind is
+          ∙ ap not (pair_by_number h e.t i x.lease.intent.n x.lease l.0 (in_time h e l.1) (push_lives h e.t w m x l.0 f)
+          ∙ ap (is_number (option_map (λ l. l.intent.n) (live_lease_of h e.t i.topic i.callback))) a.lease),
+      ap (λ z. shown (after_miss e.t z x)) kind,
+    ))
   where
     made : Lease
     made = record { intent = i; sent = sent }

@@ -3,3 +3,5 @@ pub mod Onward
 pub mod FirstDue
 pub mod Stepped
 pub mod Confirmation
+pub mod Renewal
+pub mod NewLease

@@ -75,9 +75,17 @@ cond_some : (b : Bool) (t : ℕ) (o : Option OpenPair) (p : OpenPair) → unexpi
 cond_some true t o p k = refl
 cond_some false t o p k = k
 
-left_closed : (b c : Bool) (x y : OwedPush) → c ≡ not b → shown y ≡ shown x → cond b None (Some (shown x)) ≡ option_map shown (option_map (λ (z : OwedPush). y) (cond c (Some x) None))
-left_closed true c x y e k = rw e refl
-left_closed false c x y e k = rw e (ap Some (sym k))
+-- what is left of a pair that is closed or left as it is
+pub closed_at :
+    (e : Event) (h : List Event) (c : Bool) (row : Option OpenPair) (z : Option OwedPush) → unexpired e.t row ≡ option_map shown z
+    → ((x : OwedPush) → z ≡ Some x → (stays_owed e.what (confirmed_intent e.what h) x ≡ not c) × (shown (after_miss e.t e.what x) ≡ shown x))
+    → unexpired e.t (cond c None row) ≡ left_of e h z
+closed_at e h c row None u f = cond_none c e.t row u
+closed_at e h c row (Some x) u f = cond_some c e.t row (shown x) u ∙ by c (stays_owed e.what (confirmed_intent e.what h) x) (f x refl).0 (f x refl).1
+  where
+    by : (b d : Bool) → d ≡ not b → shown (after_miss e.t e.what x) ≡ shown x → cond b None (Some (shown x)) ≡ option_map shown (option_map (after_miss e.t e.what) (cond d (Some x) None))
+    by true d k m = rw k refl
+    by false d k m = rw k (ap Some (sym m))
 
 -- the event closes the pairs that pass, and leaves the others as they are
 pub closed_stands :
@@ -87,16 +95,12 @@ pub closed_stands :
     → ((v n : ℕ) (x : OwedPush) → find (is_pair v n) (pushes h e.t) ≡ Some x → IsAt v n x → (stays_owed e.what (confirmed_intent e.what h) x ≡ not (c v n)) × (shown (after_miss e.t e.what x) ≡ shown x))
     → StandsFor (e ∷ h) e.t new
 closed_stands e h since old new c l s k none look f =
-    stands_by e h since old new l s k none
-    (λ v n m o. ap (unexpired e.t) (look v n) ∙ cond_none (c v n) e.t (pair_at v n old) o)
-    (λ v n x m a o. ap (unexpired e.t) (look v n) ∙ cond_some (c v n) e.t (pair_at v n old) (shown x) o ∙ by v n x (f v n x m a))
-  where
-    by : (v n : ℕ) (x : OwedPush) → (stays_owed e.what (confirmed_intent e.what h) x ≡ not (c v n)) × (shown (after_miss e.t e.what x) ≡ shown x) → cond (c v n) None (Some (shown x)) ≡ left_of e h (Some x)
-    by v n x p = closed_one (c v n) (stays_owed e.what (confirmed_intent e.what h) x) p.0 p.1
-      where
-        closed_one : (b d : Bool) → d ≡ not b → shown (after_miss e.t e.what x) ≡ shown x → cond b None (Some (shown x)) ≡ option_map shown (option_map (after_miss e.t e.what) (cond d (Some x) None))
-        closed_one true d k m = rw k refl
-        closed_one false d k m = rw k (ap Some (sym m))
+    stands_after h e new l
+    (λ v n.
+    ap (unexpired e.t) (look v n)
+    ∙ closed_at e h (c v n) (pair_at v n old) (find (is_pair v n) (pushes h e.t)) (s.shows e.t v n k) (λ x m. f v n x m (found_at v n (pushes h e.t) x m))
+    ∙ sym (left_at e h v n l.0)
+    ∙ ap (λ xs. shown_of v n (xs ++ map (after_miss e.t e.what) (filter (stays_owed e.what (confirmed_intent e.what h)) (pushes h e.t)))) (sym none))
 
 -- what is closed was of the history
 pub closed_pairs : (P : ℕ → ℕ → OpenPair → Type 0) (old new : Rows) (c : ℕ → ℕ → Bool) → ((v n : ℕ) → pair_at v n new ≡ cond (c v n) None (pair_at v n old)) → ((v n : ℕ) → IfSome (pair_at v n old) (P v n)) → (v n : ℕ) → IfSome (pair_at v n new) (P v n)

@@ -14,7 +14,7 @@ use Rattle.ws_intent.specs.Stands.{StandsFor as IntentsStand}
 use Rattle.ws_lease.specs.Stands.{StandsFor as LeasesStand}
 use Rattle.ws_topic.specs.Stands.{StandsFor as TopicsStand}
 use Rattle.ws_delivery.specs.declared.open_pair.OpenPair.{OpenPair}
-use Rattle.ws_delivery.specs.Table.{pair_at}
+use Rattle.ws_delivery.specs.Table.{Rows as DeliveryRows, carried, pair_at}
 use Rattle.ws_delivery.specs.Stands.{StandsFor as DeliveriesStand}
 use Rattle.ws_core_tables.specs.declared.due.DueWork.{DueWork}
 use Rattle.ws_core_tables.specs.declared.due.DueWork.TheVariants.{Verify as DueVerify, Notice as DueNotice, Fetch as DueFetch, Push as DuePush}
@@ -80,3 +80,8 @@ is_of_topics _ = false
 abbrev pub is_number : Option ℕ → ℕ → Bool
 is_number None n = false
 is_number (Some m) n = m == n
+
+-- the pair of a version that a new lease takes over from an old one, where there is one: it is born at t
+abbrev pub renewed : ℕ → ℕ → Option ℕ → ℕ → DeliveryRows → Option OpenPair
+renewed exp t None v rows = None
+renewed exp t (Some old) v rows = carried exp t (pair_at v old rows)

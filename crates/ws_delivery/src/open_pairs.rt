@@ -61,6 +61,7 @@ impl OpenPairs {
     pub fn len(&self) -> u64
         ensures len { result ≡ length self.now }
         ensures small { result < 2 ^ 63 }
+        ensures ordered { IsStrictlySortedBy pair_order (keys_of self.now) }
     {
         self.pairs.len() as u64
     }

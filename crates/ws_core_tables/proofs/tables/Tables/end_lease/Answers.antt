@@ -1,4 +1,4 @@
-use Rattle.std.proofs.Common.{◌≡◌, true, false, ap, sym, ◌∙◌, subst, refl, ℕ, ◌≤◌, List, ◌∷◌, Some, None, cond}
+use Rattle.std.proofs.Common.{sym, subst}
 use Rattle.std.specs.Prelude.{MatchOption}
 use Rattle.ws_lease.specs.Stands.{StandsFor as LeasesStand, EndsLease, LeavesLeases}
 use Rattle.ws_lease.proofs.Standing.{stands_on}

@@ -1,5 +1,5 @@
-use Rattle.std.proofs.Common.{◌≡◌, true, false, ap, sym, ◌∙◌, subst, refl, ℕ, ◌≤◌, List, ◌∷◌, Some, None, cond}
-use Rattle.ws_core_tables.specs.Stands.{StandsFor, IsOfHistory}
+use Rattle.std.proofs.Common.{◌≡◌, ap, sym, ◌∙◌, subst, Some, None}
+use Rattle.ws_core_tables.specs.Stands.{StandsFor}
 use Rattle.std.specs.Prelude.{Option}
 use Rattle.std.specs.Option.{option_map}
 use Rattle.ws_model.specs.declared.event.Intent.{Intent}

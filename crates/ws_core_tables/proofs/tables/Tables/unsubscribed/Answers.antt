@@ -1,4 +1,4 @@
-use Rattle.std.proofs.Common.{◌≡◌, true, false, ap, sym, ◌∙◌, subst, refl, ℕ, ◌≤◌, List, ◌∷◌, Some, None, cond}
+use Rattle.std.proofs.Common.{◌≡◌, true, false, ap, sym, ◌∙◌, subst, None, cond}
 use Rattle.std.specs.Prelude.{IfSome, MatchOption, is_some}
 use Rattle.ws_model.specs.declared.fate.Cause.TheVariants.{Unsubscribed}
 use Rattle.ws_model.specs.Leases.{is_on}
@@ -10,7 +10,7 @@ use Rattle.ws_lease.specs.Table.{live_at}
 use Rattle.ws_delivery.specs.Table.{pair_at}
 use Rattle.ws_core_tables.specs.Numbers.{with_event}
 use Rattle.ws_core_tables.specs.Rows.{Rows}
-use Rattle.ws_core_tables.specs.Stands.{GoesOn, IsOfHistory, StandsFor, is_number}
+use Rattle.ws_core_tables.specs.Stands.{GoesOn, IsOfHistory, is_number}
 use Rattle.ws_core_tables.proofs.Confirmation.{confirmed_is, found_lives, there, unsubscription_does, unsubscription_stands}
 use Rattle.ws_core_tables.proofs.Lookups.{waiting_is}
 use Rattle.ws_core_tables.proofs.Onward.{by_confirmation, pairs_on}
@@ -39,13 +39,13 @@ returns c =
           c.end_lease.ensures.topics
           (λ h s l. c.settle.ensures.stands h e (subst (λ (r : IntentRows). IntentsStand r h) (sym (ap (λ (r : Rows). r.intents) c.self.view_is ∙ c.end_lease.ensures.intents)) s) l (c.args._sent, c.requires.kind))
           (λ h since s l k.
-              let waits = waiting_is h old.intents c.args.n w.it s.intents w.is in
-              c.end_lease.ensures.leases h e since s.leases k l
-              (subst (λ o. MatchOption o (LeavesLeases e h) (λ m. EndsLease e h m Unsubscribed)) (sym (c.lease_of-lease.ensures.stands h since w.it.intent s l.0 k waits))
-              (unsubscription_does h e c.args.n c.args._sent w.it.intent l c.requires.kind (confirmed_is e h c.args.n c.args._sent w.it.intent c.requires.kind waits) w.has)))
+          let waits = waiting_is h old.intents c.args.n w.it s.intents w.is in
+          c.end_lease.ensures.leases h e since s.leases k l
+          (subst (λ o. MatchOption o (LeavesLeases e h) (λ m. EndsLease e h m Unsubscribed)) (sym (c.lease_of-lease.ensures.stands h since w.it.intent s l.0 k waits))
+          (unsubscription_does h e c.args.n c.args._sent w.it.intent l c.requires.kind (confirmed_is e h c.args.n c.args._sent w.it.intent c.requires.kind waits) w.has)))
           (λ h since s l k.
-              let waits = waiting_is h old.intents c.args.n w.it s.intents w.is in
-              unsubscription_stands e h since old.deliveries new.deliveries c.args.n c.args._sent w.it.intent c.requires.kind (confirmed_is e h c.args.n c.args._sent w.it.intent c.requires.kind waits) w.has l s.deliveries k
-              (λ v m. c.end_lease.ensures.pairs v m ∙ ap (λ o. cond (is_number o m) None (pair_at v m old.deliveries)) (c.lease_of-lease.ensures.stands h since w.it.intent s l.0 k waits)))
+          let waits = waiting_is h old.intents c.args.n w.it s.intents w.is in
+          unsubscription_stands e h since old.deliveries new.deliveries c.args.n c.args._sent w.it.intent c.requires.kind (confirmed_is e h c.args.n c.args._sent w.it.intent c.requires.kind waits) w.has l s.deliveries k
+          (λ v m. c.end_lease.ensures.pairs v m ∙ ap (λ o. cond (is_number o m) None (pair_at v m old.deliveries)) (c.lease_of-lease.ensures.stands h since w.it.intent s l.0 k waits)))
           (λ h since s l k. pairs_on e h new.deliveries l (closed_pairs (IsOfHistory h) old.deliveries new.deliveries (λ v m. is_number c.lease_of-lease.result m) c.end_lease.ensures.pairs s.pairs)));
     }

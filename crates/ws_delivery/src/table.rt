@@ -182,6 +182,14 @@ impl Deliveries {
         Ok(number)
     }
 
+    /// How many pairs are open, those of expired leases included. They are held by lease and version.
+    pub fn count(&self) -> u64
+        ensures count { result ≡ length self.now }
+        ensures ordered { IsStrictlySortedBy pair_order (keys_of self.now) }
+    {
+        self.pairs.len()
+    }
+
     /// How many pairs are owed at `t`. It goes over the leases that have ended by then and whose pairs
     /// aren't closed.
     pub fn owed(&self, t: u64) -> u64

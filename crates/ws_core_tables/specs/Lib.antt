@@ -1,0 +1,4 @@
+pub mod Allowed
+pub mod Numbers
+pub mod Rows
+pub mod Stands

@@ -1,0 +1,15 @@
+//! The four tables of the hub put together: what happened is applied to all of them, and what may
+//! follow and what is due is read from them.
+#![tactic(auto)]
+
+mod allowing;
+mod applying;
+mod confirming;
+mod due;
+mod ending;
+mod numbers;
+mod tables;
+
+pub use due::DueWork;
+pub use numbers::{Greatest, Numbers};
+pub use tables::Tables;

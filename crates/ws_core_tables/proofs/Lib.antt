@@ -1,3 +1,4 @@
 pub mod Lookups
 pub mod Onward
 pub mod FirstDue
+pub mod Holding

@@ -4,6 +4,7 @@
 
 mod allowing;
 mod applying;
+mod asking;
 mod due;
 mod numbers;
 mod tables;

@@ -5,6 +5,7 @@
 mod allowing;
 mod applying;
 mod confirming;
+mod asking;
 mod due;
 mod ending;
 mod numbers;

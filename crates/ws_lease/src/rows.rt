@@ -119,6 +119,7 @@ pub(crate) fn first_expired(by_end: &Ends, t: u64) -> Option<u64>
 pub(crate) fn count_after(by_end: &Ends, t: u64) -> u64
     ensures count { result ≡ length (filter (λ k. nat_lt t k.0) by_end.now.keys) }
     ensures ordered { IsStrictlySortedBy end_order by_end.now.keys }
+    ensures small { result < 2 ^ 63 }
 {
     let mut left = by_end.len() as u64;
     for key in by_end {

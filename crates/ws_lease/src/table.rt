@@ -117,6 +117,7 @@ impl Leases {
         requires { t < 2 ^ 48 }
         ensures value { result ≡ length (live_rows t self.now) }
         ensures stands { (h : List Event) (since : ℕ) → Legal h → StandsFor h since self.now → since ≤ t → result ≡ length (live h t) }
+        ensures small { result < 2 ^ 63 }
     {
         rows::count_after(&self.by_end, t)
     }

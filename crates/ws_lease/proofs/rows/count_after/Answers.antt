@@ -19,6 +19,7 @@ loop-key-preserved c =
       next = tt;
       finite = tt;
       left = let l = c.loop-key.invariant.left ∙ ap length e in omega arith;
+      small = let s = c.loop-key.invariant.small in omega arith;
       sorted = sorted_rest c.in-Some.key.now c.next.new.self (subst (IsStrictlySortedBy end_order) e c.loop-key.invariant.sorted);
       after = ap length (sym (skipped c.args.t c.in-Some.key.now c.next.new.self c.if-t-key.false) ∙ ap (filter (λ k. nat_lt c.args.t k.0)) (sym e)) ∙ c.loop-key.invariant.after;
     }

@@ -1,0 +1,4 @@
+pub mod Bounds
+pub mod Mentions
+pub mod Revoking
+pub mod Composed

@@ -1,0 +1,60 @@
+// What the tables hold, as answers to requests go by it.
+ghost use Rattle.std.specs.Prelude.{◌≡◌, ◌≤◌, ◌<◌, ◌^◌, ℕ, List, length, option_map};
+ghost use Rattle.ws_model.specs.declared.event.Event.{Event};
+ghost use Rattle.ws_model.specs.Answer.{has_live_lease, held_leases};
+ghost use Rattle.ws_model.specs.Intents.{pending};
+ghost use Rattle.ws_model.specs.Legal.{Legal};
+ghost use Rattle.ws_model.specs.Moment.{intent_number, serial};
+ghost use Rattle.ws_model.specs.Revocation.{live_lease_of};
+ghost use Rattle.ws_core_tables.specs.Stands.{StandsFor};
+
+use crate::Tables;
+
+impl Tables {
+    /// The greatest serial so far.
+    pub fn serial(&self) -> u64
+        ensures stands { (h : List Event) (since : ℕ) → StandsFor h since self.now → result ≡ serial h }
+    {
+        self.numbers.all.serial
+    }
+
+    /// The greatest number of an intent so far.
+    pub fn intent_number(&self) -> u64
+        ensures stands { (h : List Event) (since : ℕ) → StandsFor h since self.now → result ≡ intent_number h }
+    {
+        self.numbers.all.intent
+    }
+
+    /// How many intents are pending.
+    pub fn pending(&self) -> u64
+        ensures count { result ≡ length self.now.intents.pending }
+        ensures stands { (h : List Event) (since : ℕ) → StandsFor h since self.now → Legal h → result ≡ length (pending h) }
+    {
+        self.intents.pending()
+    }
+
+    /// How many leases are live at `t`, and how many pending intents ask for one, together.
+    pub fn held_leases(&self, t: u64) -> u64
+        requires in_time { t < 2 ^ 48 }
+        requires few { length self.now.intents.pending < 2 ^ 32 }
+        ensures stands { (h : List Event) (since : ℕ) → StandsFor h since self.now → Legal h → since ≤ t → result ≡ held_leases h t }
+    {
+        self.leases.count(t) + self.intents.subscriptions()
+    }
+
+    /// Whether a topic has a lease that is live at `t`.
+    pub fn has_live_lease(&self, topic: &[u8], t: u64) -> bool
+        requires { t < 2 ^ 48 }
+        ensures stands { (h : List Event) (since : ℕ) → StandsFor h since self.now → Legal h → since ≤ t → result ≡ has_live_lease h t topic.now }
+    {
+        self.leases.live_of_topic(topic, t).next().is_some()
+    }
+
+    /// The number of the lease of a topic and a callback that is live at `t`.
+    pub fn live_lease(&self, topic: &[u8], callback: &[u8], t: u64) -> Option<u64>
+        requires { t < 2 ^ 48 }
+        ensures stands { (h : List Event) (since : ℕ) → StandsFor h since self.now → Legal h → since ≤ t → result ≡ option_map (λ l. l.intent.n) (live_lease_of h t topic.now callback.now) }
+    {
+        self.leases.find(topic, callback, t)
+    }
+}

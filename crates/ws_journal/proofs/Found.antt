@@ -1,8 +1,7 @@
 -- What was read at one gate, and so far.
-use Rattle.std.proofs.Common.{◌≡◌, ◌≢◌, ◌⊎◌, inl, inr, ℕ, ◌+◌, ◌<◌, ◌≤◌, ◌^◌, List, [], ◌∷◌, ◌++◌, length, take, drop, refl, sym, ◌∙◌, ap, subst, arith, append_assoc, length-append, length-drop, Option, Some, None, Result, Ok, Err}
+use Rattle.std.proofs.Common.{◌≡◌, ◌≢◌, ◌⊎◌, inl, inr, ℕ, ◌+◌, ◌<◌, List, [], ◌∷◌, ◌++◌, length, drop, refl, sym, ◌∙◌, ap, subst, arith, append_assoc, length-append, length-drop, Option, Some, None, Ok, Err}
 use Rattle.std.specs.Prelude.{All}
 use Rattle.std.specs.Int.{w32}
-use Rattle.std.proofs.lemmas.List.{drop-drop, drop_at}
 use Rattle.std.proofs.lemmas.List.Elements.{All-nil, All-push}
 use Rattle.sha2.specs.Sha256.{sha256}
 use Rattle.ws_model.specs.declared.event.Event.{Event}
@@ -13,9 +12,8 @@ use Rattle.ws_journal.specs.declared.store.Edition.TheVariants.{First, Second}
 use Rattle.ws_journal.specs.declared.store.OpenFault.{OpenFault}
 use Rattle.ws_journal.specs.declared.store.OpenFault.TheVariants as Opening
 use Rattle.ws_journal.specs.declared.store.Batch.{Batch}
-use Rattle.ws_journal.specs.declared.scan.Record.{Record}
 use Rattle.ws_journal.specs.Text.{digest_text, record_text, records, IsPayload}
-use Rattle.ws_journal.specs.Image.{Stand, digest_len, IsFound, IsDamaged, IsAltered, IsWhole, IsKept}
+use Rattle.ws_journal.specs.Image.{Stand, digest_len, IsDamaged, IsAltered, IsWhole, IsKept}
 use Rattle.ws_journal.specs.Device.{kept_text, KeepsOne, KeepsDigest, IsNoBatch, StandsShort, StandsShut, StandsOpen, StandsNoBatch, StandsAltered, IsRecordAt, Checks, FindsRecord, FindsRecords, AreBatches}
 use Rattle.ws_journal.proofs.Starts.{length-kept}
 use Rattle.ws_journal.proofs.Texts.{length-digest, length-number}
@@ -77,11 +75,10 @@ altered_there Second at next digest found payload file stands within is differs 
 pub checked : (edition : Edition) (at next : ℕ) (kept : Option (List ℕ)) (payload file : List ℕ) (fault : OpenFault) → StandsOpen edition (length payload) kept (payload ++ drop next file) (drop at file) → next < length file
     → Checks at kept payload (Err fault) → FindsRecord edition at file (Err fault)
 checked edition at next kept payload file (Opening.Damaged place) stands within checks = (checks.0, inr (no_batch_at edition at next kept payload file stands within checks.1 checks.2))
-checked edition at next kept payload file (Opening.Altered place digest found) stands within checks =
-    (
-      checks.0,
-      altered_there edition at next digest found payload file (subst (λ (k : Option (List ℕ)). StandsOpen edition (length payload) k (payload ++ drop next file) (drop at file)) checks.1 stands) within checks.2 checks.3,
-    )
+checked edition at next kept payload file (Opening.Altered place digest found) stands within checks = (
+  checks.0,
+  altered_there edition at next digest found payload file (subst (λ (k : Option (List ℕ)). StandsOpen edition (length payload) k (payload ++ drop next file) (drop at file)) checks.1 stands) within checks.2 checks.3,
+)
 checked edition at next kept payload file (Opening.Foreign place) stands within checks = absurd checks
 checked edition at next kept payload file Opening.Disk stands within checks = tt
 checked edition at next kept payload file Opening.NoMemory stands within checks = tt

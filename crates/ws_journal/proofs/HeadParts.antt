@@ -1,5 +1,5 @@
 -- What a device's parts make it.
-use Rattle.std.proofs.Common.{◌≡◌, inl, inr, ℕ, ◌+◌, ◌<◌, ◌≤◌, ◌^◌, List, [], ◌∷◌, ◌++◌, length, take, drop, refl, sym, ◌∙◌, ap, subst, arith, append_assoc, length-append, take-append-drop, length-take, suc, get_or-drop}
+use Rattle.std.proofs.Common.{◌≡◌, inl, inr, ℕ, ◌+◌, ◌<◌, ◌≤◌, List, ◌∷◌, ◌++◌, length, take, drop, refl, sym, ◌∙◌, ap, arith, append_assoc, length-append, take-append-drop, length-take, suc, get_or-drop}
 use Rattle.std.specs.Prelude.{◌≢◌, slice_index}
 use Rattle.std.specs.Int.{w64}
 use Rattle.std.proofs.lemmas.List.{take_at}
@@ -22,7 +22,7 @@ parts_more gate name generation bytes file is parts =
       rest = parts.rest ++ more;
       some = let some = parts.some in omega (arith, length-append parts.rest more);
       is = sym (take-append-drop 18 file) ∙ ap (λ (l : List ℕ). l ++ more) (is ∙ parts.is)
-      ∙ ap (λ (l : List ℕ). gate ∷ l) (append_assoc name (number ++ parts.rest) more ∙ ap (λ (l : List ℕ). name ++ l) (append_assoc number parts.rest more));
+          ∙ ap (λ (l : List ℕ). gate ∷ l) (append_assoc name (number ++ parts.rest) more ∙ ap (λ (l : List ℕ). name ++ l) (append_assoc number parts.rest more));
       eight = parts.eight;
       fits = parts.fits;
     }

@@ -1,7 +1,8 @@
 -- A device is one thing: unused, foreign, or a used one of one edition and one generation.
-use Rattle.std.proofs.Common.{◌≡◌, ◌⊎◌, inl, inr, ℕ, ◌+◌, ◌<◌, ◌≤◌, ◌^◌, List, [], ◌∷◌, ◌++◌, length, take, drop, refl, sym, ◌∙◌, ap, subst, arith, append_assoc, length-append}
-use Rattle.std.specs.Prelude.{◌≢◌, slice_index}
+use Rattle.std.proofs.Common.{◌≡◌, inl, inr, ℕ, ◌+◌, ◌<◌, List, ◌∷◌, ◌++◌, length, take, drop, refl, sym, ◌∙◌, ap, subst, arith, append_assoc, length-append}
+use Rattle.std.specs.Prelude.{slice_index}
 use Rattle.std.specs.Int.{w64}
+use Rattle.std.proofs.lemmas.List.{drop_at}
 use Rattle.ws_record.specs.Text.{number_text}
 use Rattle.ws_record.specs.NumberLaws.{wide64, length-number_text, number-apart}
 use Rattle.ws_journal.specs.declared.store.Edition.{Edition}
@@ -29,6 +30,12 @@ used_long edition generation rest file used =
     let name = name_text edition in
     let number = number_text w64 generation in
     omega (arith, ap length (used_parts edition generation rest file used), length-append name (number ++ rest), length-append number rest, length-name edition, length-number_text w64 wide64 generation)
+
+pub used_rest : (edition : Edition) (generation : ℕ) (rest file : List ℕ) → IsUsed edition generation rest file → drop 17 file ≡ rest
+used_rest edition generation rest file used =
+    let head = 1 ∷ head_text edition generation in
+    let long : length head ≡ 17 = omega (arith, length-append (name_text edition) (number_text w64 generation), length-name edition, length-number_text w64 wide64 generation) in
+    ap (drop 17) used.is ∙ drop_at head rest 17 long
 
 named_once : (edition other : Edition) (x y : List ℕ) → name_text edition ++ x ≡ name_text other ++ y → (edition ≡ other) × (x ≡ y)
 named_once First First x y is = (refl, ap (drop 8) is)

@@ -9,6 +9,7 @@ mod Looking
 mod Making
 mod Moments
 mod Once
+mod Opening
 mod Readings
 mod Recorded
 mod Records

@@ -1,5 +1,5 @@
 -- What the bytes at a record's gate say.
-use Rattle.std.proofs.Common.{◌≡◌, ◌≢◌, inl, inr, ℕ, ◌+◌, ◌<◌, ◌≤◌, ◌^◌, List, [], ◌∷◌, ◌++◌, length, take, drop, refl, sym, ◌∙◌, ap, subst, arith, append_assoc, length-append, length-take, take-append-drop, length-drop, Option, Some, None}
+use Rattle.std.proofs.Common.{◌≡◌, ◌≢◌, inl, inr, ℕ, ◌+◌, ◌<◌, ◌≤◌, List, ◌∷◌, ◌++◌, length, take, drop, refl, sym, ◌∙◌, ap, subst, arith, append_assoc, length-append, length-take, take-append-drop, Option, Some, None}
 use Rattle.std.specs.Int.{w32, from_be_bytes}
 use Rattle.std.proofs.lemmas.List.{take_all, take_at, drop_at, drop-drop}
 use Rattle.ws_record.specs.Text.{number_text, NumberFits}
@@ -62,8 +62,8 @@ module _ (gate : ℕ) (rest bytes left : List ℕ) (is : take 37 left ≡ bytes)
         let number = number_text w32 len in
         let text = kept_text kept in record {
           is = whole ∙ (λ i. is_open i ∷ (begins.parts i ++ more))
-          ∙ ap (λ (l : List ℕ). 1 ∷ ((number ++ l) ++ more)) digest
-          ∙ ap (λ (l : List ℕ). 1 ∷ l) (append_assoc number (text ++ after) more ∙ ap (λ (l : List ℕ). number ++ l) (append_assoc text after more));
+              ∙ ap (λ (l : List ℕ). 1 ∷ ((number ++ l) ++ more)) digest
+              ∙ ap (λ (l : List ℕ). 1 ∷ l) (append_assoc number (text ++ after) more ∙ ap (λ (l : List ℕ). number ++ l) (append_assoc text after more));
           short = begins.fit;
           digest = long;
         }

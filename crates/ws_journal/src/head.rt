@@ -11,7 +11,7 @@ use crate::store::Edition;
 use ws_disk::{Disk, DiskFailed};
 
 /// The least size of a device that is used, in bytes.
-const LEAST_SIZE: usize = 18;
+pub(crate) const LEAST_SIZE: usize = 18;
 
 /// What a device is, by its head.
 #[derive(Clone, Copy)]
@@ -68,7 +68,10 @@ fn judge_head(bytes: &[u8]) -> Head
     match (gate, edition_of(name)) {
         (0, _) => Head::Unused,
         (1, Some(edition)) if is_generation(edition, generation) => {
-            Head::Used { edition, generation }
+            Head::Used {
+                edition,
+                generation,
+            }
         }
         (1, Some(_)) => Head::Foreign { at: 9 },
         (1, None) => Head::Foreign { at: 1 },

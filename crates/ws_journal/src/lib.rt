@@ -2,6 +2,7 @@
 #![tactic(auto)]
 
 mod append;
+mod choose;
 mod clear;
 mod fresh;
 mod gate;
@@ -10,6 +11,7 @@ mod journal;
 pub mod laws;
 mod make;
 mod record;
+mod recover;
 mod replace;
 mod scan;
 mod settle;

@@ -14,7 +14,7 @@ use ws_model::{Event, Events, NoMemory};
 use ws_record::read_batch;
 
 /// The place of the first record's gate.
-const FIRST_GATE: u64 = 17;
+pub(crate) const FIRST_GATE: u64 = 17;
 
 /// A gate with this value is open.
 const OPEN: u8 = 1;
@@ -214,11 +214,13 @@ fn read_record<D: Disk>(
     ensures reads { OnlyReads D.honest D.seen D.moment D.images D.faults disk.old disk.new }
     ensures cause { result ≡ Err OpenFault.Disk → Rose (D.faults disk.old) (D.faults disk.new) }
 {
-    let Some(Whole {
-        kept,
-        payload,
-        next,
-    }) = read_whole(alloc, disk, edition, size, at)?
+    let Some(
+        Whole {
+            kept,
+            payload,
+            next,
+        },
+    ) = read_whole(alloc, disk, edition, size, at)?
     else {
         return Ok(None);
     };

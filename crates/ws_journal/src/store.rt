@@ -62,10 +62,14 @@ pub struct Batch {
 pub enum OpenFault {
     /// A device is no journal's: the byte there shows it.
     #[error("foreign: {at}")]
-    Foreign { at: u64 },
+    Foreign {
+        at: u64,
+    },
     /// The record whose gate stands there is cut short, or isn't one batch.
     #[error("damaged: {at}")]
-    Damaged { at: u64 },
+    Damaged {
+        at: u64,
+    },
     /// The payload of the record whose gate stands there isn't the one that was written: the SHA-256 that
     /// the record keeps, and that of the payload as it was found.
     #[error("altered: {at}")]

@@ -15,14 +15,14 @@ use Rattle.ws_journal.specs.declared.store.OpenFault.TheVariants as Opening
 use Rattle.ws_journal.specs.declared.journal.Journal.{Journal}
 use Rattle.ws_journal.specs.declared.journal.Doubt.TheVariants.{Nothing}
 use Rattle.ws_journal.specs.Text.{head_text, records, front, IsPayload}
-use Rattle.ws_journal.specs.Image.{fresh, found, Reads, IsUnused, IsUsed, IsFound, Counts}
+use Rattle.ws_journal.specs.Image.{fresh, found, Reads, IsUsed, IsBelow, IsFound, Counts}
 use Rattle.ws_journal.specs.Kept.{IsShut, Each}
+use Rattle.ws_journal.specs.Made.{IsSpare}
 use Rattle.ws_journal.specs.Stands.{Stands, counting, other}
 use Rattle.ws_journal.specs.Looks.{OnlyReads}
 use Rattle.ws_journal.specs.Device.{FindsRecords}
 use Rattle.ws_journal.specs.Recovered.{CountsOn, Chooses, opened, IsNew, Recovers, StillReads, StandsGiven, Confirmed}
 use Rattle.ws_journal.proofs.Readings.{reads_found}
-use Rattle.ws_journal.specs.Made.{IsSpare}
 use Rattle.ws_journal.proofs.Spare.{length-head_text, spare_only}
 use Rattle.ws_journal.specs.Stands as Standing
 
@@ -79,14 +79,14 @@ new_recovers a b (Err fault) none new only = subst (λ (x : Result (Journal × V
 
 module _ {D : Type 0} (moment : D → ℕ) (images : D → ℕ → List ℕ → Type 0) where
   -- a new journal
-  pub stands_new : (limit : ℕ) (limited : limit ≤ 2 ^ 30) (begun : 17 < 18) (store : Store D) → Each (images store.a (moment store.a)) (IsShut (front Second 1 [])) → (b : List ℕ) → Only b (images store.b (moment store.b)) → IsUnused b
+  pub stands_new : (limit : ℕ) (limited : limit ≤ 2 ^ 30) (begun : 17 < 18) (store : Store D) → Each (images store.a (moment store.a)) (IsShut (front Second 1 [])) → IsSpare 1 (images store.b (moment store.b))
       → Stands moment images (record { side = A; edition = Second; generation = 1; tail = 18; limit = limit; doubt = Nothing; limited = limited; begun = begun }) store [] None
-  stands_new limit limited begun store made b second unused = record {
+  stands_new limit limited begun store made spare = record {
     generation = (lit< tt, lit< tt);
     batches = All-nil IsPayload;
     doubted = tt;
     device = record { tail = omega (arith, length-front Second 1 []); each = made; known = refl };
-    rest = spare_only 1 (images store.b (moment store.b)) b second (inl unused);
+    rest = spare;
   }
 
   -- a journal that was found
@@ -122,12 +122,12 @@ module _ {D : Type 0} (moment : D → ℕ) (images : D → ℕ → List ℕ → 
     read_at : (side : Side) → journal.side ≡ side → Reads a b (found journal.edition journal.generation payloads)
     read_at A is =
         let device = subst (λ (s : Side). Standing.Counts journal (front journal.edition journal.generation payloads) None (images (counting s store) (moment (counting s store)))) is stands.device in
-        let rest = subst (λ (s : Side). IsSpare journal.generation (images (other s store) (moment (other s store)))) is stands.rest in
-        (reads_found journal.edition journal.generation payloads a b stands.generation stands.batches (device.each a here) (rest.below b there)).0
+        let rest = subst (λ (s : Side). Each (images (other s store) (moment (other s store))) (IsBelow journal.generation)) is stands.rest.below in
+        (reads_found journal.edition journal.generation payloads a b stands.generation stands.batches (device.each a here) (rest b there)).0
     read_at B is =
         let device = subst (λ (s : Side). Standing.Counts journal (front journal.edition journal.generation payloads) None (images (counting s store) (moment (counting s store)))) is stands.device in
-        let rest = subst (λ (s : Side). IsSpare journal.generation (images (other s store) (moment (other s store)))) is stands.rest in
-        (reads_found journal.edition journal.generation payloads b a stands.generation stands.batches (device.each b there) (rest.below a here)).1
+        let rest = subst (λ (s : Side). Each (images (other s store) (moment (other s store))) (IsBelow journal.generation)) is stands.rest.below in
+        (reads_found journal.edition journal.generation payloads b a stands.generation stands.batches (device.each b there) (rest a here)).1
 
     pub stands_read : Reads a b (found journal.edition journal.generation payloads)
     stands_read = read_at journal.side refl

@@ -20,7 +20,8 @@ use Rattle.ws_journal.specs.Replaced.{StandsBeside, IsKept, BesideCrash, Countin
 use Rattle.ws_journal.proofs.Readings.{shut_device, reads_found}
 use Rattle.ws_journal.proofs.Appending.{reads_side, place_at, one_more, standing_on}
 use Rattle.ws_journal.proofs.Files.{shut_within, doubt_either}
-use Rattle.ws_journal.proofs.Making.{length-body, half_either}
+use Rattle.ws_journal.proofs.Making.{half_either}
+use Rattle.ws_journal.proofs.Opening.{length-front}
 
 -- a device that counts is below the next generation
 pub counts_below : (edition : Edition) (generation : ℕ) (payloads : List (List ℕ)) (file : List ℕ) → IsGeneration edition generation → All IsPayload payloads
@@ -169,13 +170,6 @@ module _ {D : Type 0} (moment : D → ℕ) (images : D → ℕ → List ℕ → 
       cases (Ok done) counts = standing_on moment images journal after old new payloads doubt stands apart None payloads same stands.batches tt counts
       cases (Err e) counts = standing_on moment images journal after old new payloads doubt stands apart doubt payloads same stands.batches stands.doubted counts
 
-pub length-front : (generation : ℕ) (payloads : List (List ℕ)) → length (front Second generation payloads) ≡ 17 + length (records Second payloads)
-unfolding front
-length-front generation payloads = omega (arith, length-body generation payloads)
-
-pub payload_short : (payload : List ℕ) → IsPayload payload → length payload < 2 ^ 32
-payload_short payload is = is.short
-
 module _ {D : Type 0} (moment : D → ℕ) (images : D → ℕ → List ℕ → Type 0) (journal after : Journal) (side next : Side) (is : journal.side ≡ side) (old new : Store D) (payloads newer : List (List ℕ))
     (stands : Stands moment images journal old payloads None) (untouched : counting side new ≡ counting side old) (small : journal.generation < 2 ^ 63 - 1) (batches : All IsPayload newer) where
   abbrev Present : D → List ℕ → Type 0
@@ -200,7 +194,7 @@ module _ {D : Type 0} (moment : D → ℕ) (images : D → ℕ → List ℕ → 
       let up = journal.generation + 1 in
       let is_next = next_generation journal.generation small in
       let counts : Counts after (front Second up newer) None (Present (counting next new)) = record {
-        tail = omega (arith, switched.ends, ends, length-front up newer);
+        tail = omega (arith, switched.ends, ends, length-front Second up newer);
         each = λ image now. made image (subst (λ (d : D). Present d image) here now);
         known = switched.doubt ∙ stands.device.known;
       } in

@@ -1,5 +1,5 @@
 // Replacing a journal's batches: the other device is made the next generation.
-ghost use Rattle.std.specs.Prelude.{◌≡◌, ◌≢◌, ◌≤◌, ◌+◌, ◌-◌, ◌^◌, ◌<◌, ◌↔◌, ◌⊎◌, List, ℕ, length, All, Option, None, Ok, Err, OnOk, IsErr, is_ok};
+ghost use Rattle.std.specs.Prelude.{◌≡◌, ◌≢◌, ◌≤◌, ◌+◌, ◌-◌, ◌^◌, ◌<◌, ◌↔◌, ◌⊎◌, List, ℕ, length, All, Option, None, Ok, Err, OnOk, OnErr, IsErr, is_ok};
 ghost use Rattle.ws_model.specs.Cause.{HasCause, Rose};
 ghost use Rattle.ws_disk.specs.Crash.{LeavesOnly};
 ghost use Rattle.ws_record.specs.Text.{capped};
@@ -65,6 +65,8 @@ impl Journal {
         ensures failed { (older : ℕ) → D.honest disk.old → IsSpare older (D.images disk.old (D.moment disk.old)) → IsErr result
             → ((self.new ≡ self.old) × IsSpare older (D.images disk.new (D.moment disk.new)))
             ⊎ (KnowsDevice self.old self.new × Each (D.images disk.new (D.moment disk.new)) (IsHalfMade generation batches.now)) }
+        ensures done { OnOk result (self.new.edition ≡ Second) }
+        ensures not_done { OnErr result (self.new.edition ≡ self.old.edition) }
         ensures limit { self.new.limit ≡ self.old.limit }
         ensures honesty { D.honest disk.new ↔ D.honest disk.old }
         ensures cause { HasCause (D.faults disk.old) (D.faults disk.new) result }
@@ -99,6 +101,8 @@ impl Journal {
             → BesideCrash D.moment D.images self.old.side store.old store.new (ReadsOlderOrNewer self.old payloads batches.now) }
         ensures replaced { (payloads : List (List ℕ)) → self.old.generation < 2 ^ 63 - 1 → D.honest (other self.old.side store.old) → Stands D.moment D.images self.old store.old payloads None
             → Replaced D.moment D.images self.old self.new store.new payloads batches.now (is_ok result) }
+        ensures done { OnOk result (self.new.edition ≡ Second) }
+        ensures not_done { OnErr result (self.new.edition ≡ self.old.edition) }
         ensures limit { self.new.limit ≡ self.old.limit }
         ensures untouched { counting self.old.side store.new ≡ counting self.old.side store.old }
         ensures honesty { D.honest (other self.old.side store.new) ↔ D.honest (other self.old.side store.old) }
@@ -126,6 +130,8 @@ impl Journal {
             → Stands D.moment D.images self.old store.old payloads doubt → Replaces D.moment D.images self.old self.new store.old store.new payloads doubt batches.now (is_ok result) }
         ensures replaces_beside { (payloads doubted : List (List ℕ)) → D.honest (counting self.old.side store.old) → D.honest (other self.old.side store.old)
             → StandsBeside D.moment D.images self.old store.old payloads doubted → ReplacesBeside D.moment D.images self.old self.new store.old store.new payloads doubted batches.now (is_ok result) }
+        ensures done { OnOk result (self.new.edition ≡ Second) }
+        ensures not_done { OnErr result (self.new.edition ≡ self.old.edition) }
         ensures limit { self.new.limit ≡ self.old.limit }
         ensures honesty { D.honest (counting self.old.side store.new) ↔ D.honest (counting self.old.side store.old) }
         ensures other_honesty { D.honest (other self.old.side store.new) ↔ D.honest (other self.old.side store.old) }
@@ -169,6 +175,7 @@ impl Journal {
             → StandsBeside D.moment D.images self.old store.old payloads doubted → (IsLast self.old ⊎ PassesWith self.old batches.now → ⊥)
             → ReplacesBeside D.moment D.images self.old self.new store.old store.new payloads doubted batches.now (is_ok result) }
         ensures memory { result ≢ Err AppendFault.NoMemory }
+        ensures same_edition { self.new.edition ≡ Second }
         ensures limit { self.new.limit ≡ self.old.limit }
         ensures honesty { D.honest (counting self.old.side store.new) ↔ D.honest (counting self.old.side store.old) }
         ensures other_honesty { D.honest (other self.old.side store.new) ↔ D.honest (other self.old.side store.old) }

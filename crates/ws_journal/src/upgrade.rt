@@ -1,7 +1,7 @@
 // A journal of edition 1 is written anew as one of edition 2.
-ghost use Rattle.std.specs.Prelude.{◌≡◌, ◌≢◌, ◌≤◌, ◌+◌, ◌-◌, ◌^◌, ◌<◌, ◌↔◌, ◌⊎◌, List, ℕ, length, All, None, Ok, Err, OnOk, IfOk, IsErr, is_ok};
+ghost use Rattle.std.specs.Prelude.{◌≡◌, ◌≢◌, ◌≤◌, ◌+◌, ◌-◌, ◌^◌, ◌<◌, ◌↔◌, ◌⊎◌, List, ℕ, length, All, None, Ok, Err, OnOk, OnErr, IfOk, IsErr, is_ok};
 ghost use Rattle.ws_model.specs.Cause.{Rose};
-ghost use Rattle.ws_journal.specs.declared.store.Edition.TheVariants.{First};
+ghost use Rattle.ws_journal.specs.declared.store.Edition.TheVariants.{First, Second};
 ghost use Rattle.ws_journal.specs.Replaced.{IsRecorded, texts};
 
 use crate::journal::Journal;
@@ -92,6 +92,8 @@ impl Journal {
         ensures upgrades_beside { result ≢ Err UpgradeFault.NoMemory → D.honest (counting self.old.side store.old) → D.honest (other self.old.side store.old)
             → StandsBeside D.moment D.images self.old store.old (texts batches.now) (texts batches.now)
             → ReplacesBeside D.moment D.images self.old self.new store.old store.new (texts batches.now) (texts batches.now) (texts batches.now) (is_ok result) }
+        ensures done { OnOk result (self.new.edition ≡ Second) }
+        ensures not_done { OnErr result (self.new.edition ≡ First) }
         ensures limit { self.new.limit ≡ self.old.limit }
         ensures honesty { D.honest (counting self.old.side store.new) ↔ D.honest (counting self.old.side store.old) }
         ensures other_honesty { D.honest (other self.old.side store.new) ↔ D.honest (other self.old.side store.old) }

@@ -1,8 +1,7 @@
 -- What was read at one gate, and so far.
-use Rattle.std.proofs.Common.{◌≡◌, ◌≢◌, ◌⊎◌, inl, inr, ℕ, ◌+◌, ◌<◌, ◌≤◌, ◌^◌, List, [], ◌∷◌, ◌++◌, length, take, drop, refl, sym, ◌∙◌, ap, subst, arith, append_assoc, length-append, length-drop, Option, Some, None, Result, Ok, Err}
+use Rattle.std.proofs.Common.{◌≡◌, ◌≢◌, ◌⊎◌, inl, inr, ℕ, ◌+◌, ◌<◌, List, [], ◌∷◌, ◌++◌, length, drop, refl, sym, ◌∙◌, ap, subst, arith, append_assoc, length-append, length-drop, Option, Some, None, Ok, Err}
 use Rattle.std.specs.Prelude.{All}
 use Rattle.std.specs.Int.{w32}
-use Rattle.std.proofs.lemmas.List.{drop-drop, drop_at}
 use Rattle.std.proofs.lemmas.List.Elements.{All-nil, All-push}
 use Rattle.sha2.specs.Sha256.{sha256}
 use Rattle.ws_model.specs.declared.event.Event.{Event}
@@ -13,9 +12,8 @@ use Rattle.ws_journal.specs.declared.store.Edition.TheVariants.{First, Second}
 use Rattle.ws_journal.specs.declared.store.OpenFault.{OpenFault}
 use Rattle.ws_journal.specs.declared.store.OpenFault.TheVariants as Opening
 use Rattle.ws_journal.specs.declared.store.Batch.{Batch}
-use Rattle.ws_journal.specs.declared.scan.Record.{Record}
 use Rattle.ws_journal.specs.Text.{digest_text, record_text, records, IsPayload}
-use Rattle.ws_journal.specs.Image.{Stand, digest_len, IsFound, IsDamaged, IsAltered, IsWhole, IsKept}
+use Rattle.ws_journal.specs.Image.{Stand, digest_len, IsDamaged, IsAltered, IsWhole, IsKept}
 use Rattle.ws_journal.specs.Device.{kept_text, KeepsOne, KeepsDigest, IsNoBatch, StandsShort, StandsShut, StandsOpen, StandsNoBatch, StandsAltered, IsRecordAt, Checks, FindsRecord, FindsRecords, AreBatches}
 use Rattle.ws_journal.proofs.Starts.{length-kept}
 use Rattle.ws_journal.proofs.Texts.{length-digest, length-number}

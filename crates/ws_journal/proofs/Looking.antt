@@ -1,8 +1,8 @@
 -- How calls that write nothing join.
-use Rattle.std.proofs.Common.{◌≡◌, ℕ, ◌≤◌, ◌↔◌, List, refl, sym, ◌∙◌, arith}
-use Rattle.ws_disk.specs.Crash.{NoMore, Only, Elapses, LeavesOnly}
+use Rattle.std.proofs.Common.{◌≡◌, ℕ, ◌≤◌, ◌↔◌, List, refl, ◌∙◌, arith}
+use Rattle.ws_disk.specs.Crash.{NoMore, Elapses}
 use Rattle.ws_disk.proofs.Goes.{started}
-use Rattle.ws_journal.specs.Looks.{Unwritten, OnlyReads}
+use Rattle.ws_journal.specs.Looks.{OnlyReads}
 use Rattle.ws_journal.proofs.Moments.{one_call, then_run, weaker}
 
 module _ {D : Type 0} (honest : D → Type 0) (seen : D → List ℕ) (moment : D → ℕ) (images : D → ℕ → List ℕ → Type 0) (faults : D → ℕ) where

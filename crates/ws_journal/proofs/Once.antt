@@ -1,12 +1,12 @@
 -- Two devices read as at most one thing.
-use Rattle.std.proofs.Common.{◌≡◌, ◌⊎◌, inl, inr, ℕ, ◌+◌, ◌<◌, ◌^◌, List, [], ◌∷◌, ◌++◌, length, refl, sym, ◌∙◌, ap, subst, arith}
+use Rattle.std.proofs.Common.{◌≡◌, ◌⊎◌, inl, inr, ℕ, ◌+◌, ◌<◌, List, ◌++◌, length, refl, sym, ◌∙◌, ap, subst, arith}
 use Rattle.std.specs.Prelude.{◌≢◌}
 use Rattle.sha2.specs.Sha256.{sha256}
 use Rattle.ws_journal.specs.declared.store.Edition.{Edition}
 use Rattle.ws_journal.specs.declared.store.Edition.TheVariants.{First, Second}
 use Rattle.ws_journal.specs.Text.{digest_text, record_text, records, IsPayload}
-use Rattle.ws_journal.specs.Image.{Reading, fresh, found, foreign, damaged, altered, Reads, IsUnused, IsForeign, IsDevice, IsBelow, Counts, Stand, IsFound, IsDamaged, IsAltered, IsCutShort, IsWhole, IsKept}
-use Rattle.ws_journal.proofs.Texts.{Sticks, Ends, one_end, wholes, not_cut_short, record_whole, record_kept}
+use Rattle.ws_journal.specs.Image.{Reading, fresh, found, foreign, damaged, altered, Reads, IsUnused, Counts, IsFound, IsDamaged, IsAltered, IsCutShort, IsWhole, IsKept}
+use Rattle.ws_journal.proofs.Texts.{Sticks, one_end, wholes, not_cut_short, record_whole}
 use Rattle.ws_journal.proofs.Heads.{used_once, foreign_used, foreign_device, foreign_below, one_place, lesser, counts_once, fresh_counts}
 
 -- ---- the records of the device that counts

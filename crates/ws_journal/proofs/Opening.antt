@@ -1,11 +1,11 @@
 -- What the opening of a store gives.
-use Rattle.std.proofs.Common.{◌≡◌, ◌⊎◌, inl, inr, ℕ, ◌+◌, ◌<◌, ◌≤◌, ◌^◌, List, [], ◌∷◌, ◌++◌, length, drop, refl, sym, ◌∙◌, ap, subst, arith, append_assoc, length-append, Option, Some, None, Result, Ok, Err, IsErr, lit<}
-use Rattle.std.specs.Prelude.{Vec, All, IfOk}
+use Rattle.std.proofs.Common.{◌≡◌, inl, inr, ℕ, ◌+◌, ◌<◌, ◌≤◌, ◌^◌, List, [], ◌∷◌, ◌++◌, length, refl, sym, ◌∙◌, ap, subst, arith, append_assoc, length-append, None, Result, Ok, Err, IsErr, lit<}
+use Rattle.std.specs.Prelude.{Vec, IfOk}
 use Rattle.std.specs.Global.{Global}
 use Rattle.std.proofs.lemmas.List.Elements.{All-nil}
-use Rattle.ws_disk.specs.Crash.{Only, LeavesOnly}
+use Rattle.ws_disk.specs.Crash.{Only}
 use Rattle.ws_journal.specs.declared.store.Edition.{Edition}
-use Rattle.ws_journal.specs.declared.store.Edition.TheVariants.{First, Second}
+use Rattle.ws_journal.specs.declared.store.Edition.TheVariants.{Second}
 use Rattle.ws_journal.specs.declared.store.Side.{Side}
 use Rattle.ws_journal.specs.declared.store.Side.TheVariants.{A, B}
 use Rattle.ws_journal.specs.declared.store.Store.{Store}
@@ -14,9 +14,8 @@ use Rattle.ws_journal.specs.declared.store.OpenFault.{OpenFault}
 use Rattle.ws_journal.specs.declared.store.OpenFault.TheVariants as Opening
 use Rattle.ws_journal.specs.declared.journal.Journal.{Journal}
 use Rattle.ws_journal.specs.declared.journal.Doubt.TheVariants.{Nothing}
-use Rattle.ws_journal.specs.declared.choose.Counting.{Counting}
 use Rattle.ws_journal.specs.Text.{head_text, records, front, IsPayload}
-use Rattle.ws_journal.specs.Image.{fresh, found, foreign, Reads, IsUnused, IsUsed, IsBelow, IsFound, Counts}
+use Rattle.ws_journal.specs.Image.{fresh, found, Reads, IsUnused, IsUsed, IsBelow, IsFound, Counts}
 use Rattle.ws_journal.specs.Kept.{IsShut, Each}
 use Rattle.ws_journal.specs.Stands.{Stands, counting, other}
 use Rattle.ws_journal.specs.Looks.{OnlyReads}

@@ -1,17 +1,16 @@
 -- No text of a journal's device begins another.
-use Rattle.std.proofs.Common.{◌≡◌, ◌⊎◌, inl, inr, ℕ, ◌+◌, ◌<◌, ◌≤◌, ◌^◌, List, [], ◌∷◌, ◌++◌, length, take, drop, refl, sym, ◌∙◌, ap, subst, arith, append_assoc, length-append, length-take}
-use Rattle.std.specs.Prelude.{◌≢◌, All, slice_index}
-use Rattle.std.specs.Int.{w32, w64}
-use Rattle.std.proofs.lemmas.List.{take_at, drop_at, append-nil}
+use Rattle.std.proofs.Common.{◌≡◌, ◌⊎◌, inl, inr, ℕ, ◌+◌, ◌<◌, ◌^◌, List, [], ◌∷◌, ◌++◌, length, take, drop, refl, sym, ◌∙◌, ap, arith, append_assoc, length-append}
+use Rattle.std.specs.Prelude.{◌≢◌, All}
+use Rattle.std.specs.Int.{w32}
+use Rattle.std.proofs.lemmas.List.{take_at, drop_at}
 use Rattle.std.proofs.lemmas.List.Elements.{All-head, All-tail}
-use Rattle.sha2.specs.Sha256.{sha256}
 use Rattle.sha2.proofs.Facts256.{length-sha256}
 use Rattle.ws_record.specs.Text.{number_text}
-use Rattle.ws_record.specs.NumberLaws.{wide32, wide64, length-number_text, number-apart}
+use Rattle.ws_record.specs.NumberLaws.{wide32, length-number_text, number-apart}
 use Rattle.ws_journal.specs.declared.store.Edition.{Edition}
 use Rattle.ws_journal.specs.declared.store.Edition.TheVariants.{First, Second}
-use Rattle.ws_journal.specs.Text.{name_text, head_text, digest_text, record_text, records, IsPayload}
-use Rattle.ws_journal.specs.Image.{Stand, digest_len, IsCutShort, IsWhole, IsKept}
+use Rattle.ws_journal.specs.Text.{digest_text, record_text, records, IsPayload}
+use Rattle.ws_journal.specs.Image.{digest_len, IsCutShort, IsWhole, IsKept}
 
 -- two fronts of one length
 pub apart : (a b x y : List ℕ) → length a ≡ length b → a ++ x ≡ b ++ y → (a ≡ b) × (x ≡ y)

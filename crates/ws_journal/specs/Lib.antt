@@ -7,3 +7,4 @@ pub mod OneReading
 pub mod Recovered
 pub mod Stands
 pub mod Text
+pub mod UpTo

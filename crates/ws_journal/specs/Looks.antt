@@ -1,5 +1,5 @@
 -- What calls that write nothing leave of a disk (own).
-use Rattle.std.specs.Prelude.{◌≡◌, ℕ, ◌≤◌, ◌↔◌, List, Result, Err, IsErr}
+use Rattle.std.specs.Prelude.{◌≡◌, ℕ, ◌≤◌, ◌↔◌, List}
 use Rattle.ws_disk.specs.Crash.{NoMore, LeavesOnly}
 
 -- A read gives the same, and a crash at any moment of these calls, or after them, leaves nothing that one before them

@@ -1,5 +1,5 @@
 -- What the opening of a store gives (own).
-use Rattle.std.specs.Prelude.{Vec, ◌≡◌, ◌⊎◌, ℕ, List, [], length, Option, Some, None, Result, Ok, Err}
+use Rattle.std.specs.Prelude.{Vec, ◌≡◌, ◌⊎◌, ℕ, List, [], Option, Some, None, Result, Ok, Err}
 use Rattle.std.specs.Global.{Global}
 use Rattle.ws_model.specs.Cause.{Rose}
 use Rattle.ws_disk.specs.Crash.{Only, LeavesOnly}

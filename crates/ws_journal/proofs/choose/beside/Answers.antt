@@ -1,4 +1,4 @@
-use Rattle.std.proofs.Common.{◌≡◌, ◌+◌, ◌<◌, inl, inr, ℕ, List, sym, subst, arith}
+use Rattle.std.proofs.Common.{◌+◌, inl, inr, ℕ, List, sym, subst, arith}
 use Rattle.ws_journal.specs.declared.choose.Counting.{Counting}
 use Rattle.ws_journal.specs.Recovered.{CountsOn}
 use Rattle.ws_journal.proofs.choose.beside.Goals as goal

@@ -1,11 +1,10 @@
-use Rattle.std.proofs.Common.{◌≡◌, ◌<◌, ℕ, List, ◌∷◌, ◌++◌, length, take, drop, ap, sym, subst, ◌∙◌, arith, length-take}
+use Rattle.std.proofs.Common.{◌≡◌, ◌<◌, ℕ, List, ◌∷◌, ◌++◌, length, ap, sym, subst, ◌∙◌, arith, length-take}
 use Rattle.std.specs.Int.{w64}
 use Rattle.std.proofs.lemmas.List.{take-append-drop}
 use Rattle.std.proofs.lemmas.Bool.Decides.{nat_tests}
 use Rattle.ws_record.specs.Text.{number_text, NumberFits}
 use Rattle.ws_record.specs.Reading.{Begins}
 use Rattle.ws_record.specs.NumberLaws.{AreBytes, wide64, number-begins}
-use Rattle.ws_journal.specs.Device.{HasParts}
 use Rattle.ws_journal.proofs.HeadParts.{AreBytes-behind}
 use Rattle.ws_journal.proofs.head.head_parts.Goals as goal
 

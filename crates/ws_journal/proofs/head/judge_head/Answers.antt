@@ -1,4 +1,3 @@
-use Rattle.std.proofs.Common.{◌≡◌, ◌≢◌, ℕ, sym}
 use Rattle.ws_journal.proofs.HeadParts.{parts_more, used, foreign_gate, foreign_name, foreign_generation}
 use Rattle.ws_journal.proofs.head.judge_head.Goals as goal
 

@@ -1,4 +1,4 @@
-use Rattle.std.proofs.Common.{◌≡◌, ℕ, List, length, drop, sym, ◌∙◌, ap, subst, arith}
+use Rattle.std.proofs.Common.{ℕ, List, length, drop, sym, ◌∙◌, ap, subst, arith}
 use Rattle.ws_journal.specs.Device.{FindsRecords, as_lists}
 use Rattle.ws_journal.proofs.Heads.{used_long, used_rest}
 use Rattle.ws_journal.proofs.recover.read_device.Goals as goal

@@ -1,4 +1,4 @@
-use Rattle.std.proofs.Common.{◌≡◌, ℕ, List, Result, Err, sym, ◌∙◌, subst}
+use Rattle.std.proofs.Common.{◌∙◌}
 use Rattle.ws_journal.specs.Recovered.{StillReads, opened}
 use Rattle.ws_journal.proofs.Results.{err_as}
 use Rattle.ws_journal.proofs.Opening.{stands_found, fault_reads}

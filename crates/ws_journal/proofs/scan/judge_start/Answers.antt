@@ -1,4 +1,4 @@
-use Rattle.std.proofs.Common.{◌≡◌, ℕ, ◌+◌, ◌++◌, List, length, take, drop, refl, sym, ◌∙◌, ap, subst, Some, None, arith, length-take, take-append-drop}
+use Rattle.std.proofs.Common.{◌≡◌, ℕ, ◌++◌, length, refl, sym, ◌∙◌, ap, subst, Some, None, arith, length-take, take-append-drop}
 use Rattle.std.specs.Int.{w32}
 use Rattle.ws_record.specs.Text.{number_text, NumberFits}
 use Rattle.ws_record.specs.Reading.{Begins}

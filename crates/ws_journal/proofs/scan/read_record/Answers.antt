@@ -1,7 +1,4 @@
-use Rattle.std.proofs.Common.{◌≡◌, ◌+◌, ◌<◌, ℕ, List, Option, Result, Err, length, drop, sym, ◌∙◌, ap, subst, arith}
-use Rattle.ws_model.specs.declared.event.Event.{Event}
-use Rattle.ws_journal.specs.declared.store.OpenFault.{OpenFault}
-use Rattle.ws_journal.specs.declared.scan.Record.{Record}
+use Rattle.std.proofs.Common.{ℕ, List, Err, subst, arith}
 use Rattle.ws_journal.specs.Device.{Checks, FindsRecord}
 use Rattle.ws_journal.proofs.Found.{record_at, checked}
 use Rattle.ws_journal.proofs.Results.{err_as}

@@ -1,5 +1,4 @@
-use Rattle.std.proofs.Common.{◌≡◌, ◌+◌, ◌<◌, ◌≤◌, ℕ, List, Result, Err, length, drop, sym, ◌∙◌, ap, subst, arith}
-use Rattle.ws_journal.specs.declared.store.OpenFault.{OpenFault}
+use Rattle.std.proofs.Common.{ℕ, List, Err, length, drop, sym, ◌∙◌, ap, subst, arith}
 use Rattle.ws_journal.specs.declared.store.Batch.{Batch}
 use Rattle.ws_journal.specs.Device.{IsRecordAt, FindsRecord, FindsRecords, as_lists}
 use Rattle.ws_journal.proofs.Found.{SoFar, one_more, fault_at}

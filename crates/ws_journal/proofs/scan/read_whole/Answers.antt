@@ -1,4 +1,4 @@
-use Rattle.std.proofs.Common.{◌≡◌, ◌+◌, ◌++◌, ◌-◌, ℕ, List, length, take, drop, sym, ◌∙◌, ap, subst, arith, length-drop, refl}
+use Rattle.std.proofs.Common.{◌≡◌, ◌+◌, ◌++◌, ℕ, List, length, take, drop, sym, ◌∙◌, ap, subst, arith, length-drop, refl}
 use Rattle.ws_journal.specs.Image.{digest_len}
 use Rattle.ws_journal.specs.Device.{StandsOpen}
 use Rattle.ws_journal.proofs.Starts.{short_payload, whole_payload}

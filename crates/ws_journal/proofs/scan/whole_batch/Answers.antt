@@ -1,4 +1,4 @@
-use Rattle.std.proofs.Common.{◌≡◌, [], length, sym, ◌∙◌, ap, arith}
+use Rattle.std.proofs.Common.{[], length, sym, ◌∙◌, ap}
 use Rattle.std.proofs.lemmas.List.{append-nil}
 use Rattle.ws_record.specs.Batch.{batch_text}
 use Rattle.ws_journal.proofs.scan.whole_batch.Goals as goal

@@ -1,12 +1,11 @@
-use Rattle.std.proofs.Common.{◌≡◌, ◌⊎◌, inl, inr, ℕ, List, Result, Err, sym, ◌∙◌, subst}
+use Rattle.std.proofs.Common.{◌⊎◌, inl, inr, ℕ, List, Err, sym, ◌∙◌, subst}
 use Rattle.ws_disk.specs.Crash.{LeavesOnly}
-use Rattle.ws_journal.specs.declared.store.OpenFault.{OpenFault}
 use Rattle.ws_journal.specs.Image.{fresh, Reads, IsUnused}
 use Rattle.ws_journal.specs.Recovered.{Chooses, StillReads, Recovers, opened, IsMaking}
 use Rattle.ws_journal.proofs.Moments.{then_run, weaker}
 use Rattle.ws_journal.proofs.Looking.{then_calls}
 use Rattle.ws_journal.proofs.Results.{err_as}
-use Rattle.ws_journal.proofs.Opening.{chosen_fault, fault_recovers, given_recovers, new_recovers, new_reads, confirmed_on}
+use Rattle.ws_journal.proofs.Opening.{chosen_fault, fault_recovers, new_recovers, new_reads, confirmed_on}
 use Rattle.ws_journal.proofs.journal.Journal.recover.Goals as goal
 
 pub returns-in_err-counting-clause-reads : goal.returns-in_err-counting-clause-reads

@@ -1,4 +1,5 @@
 mod Appending
+mod Between
 mod Files
 mod Found
 mod Gates

@@ -8,3 +8,4 @@ pub mod Recovered
 pub mod Replaced
 pub mod Stands
 pub mod Text
+pub mod UpTo

@@ -10,6 +10,7 @@ mod head;
 mod journal;
 pub mod laws;
 mod make;
+mod read_back;
 mod record;
 mod recover;
 #[cfg(test)]

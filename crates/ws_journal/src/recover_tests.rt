@@ -228,3 +228,17 @@ fn failing_sync_is_a_disk_fault(rt: HostRuntime) -> Result<(), Fail> {
     assert_eq!(rt; store.b.faults(), 1);
     Ok(())
 }
+
+#[test]
+fn texts_are_read_back(rt: HostRuntime) -> Result<(), Fail> {
+    let mut store = store_of(&rt, b"", WITH_ONE)?;
+    let (journal, batches) = Journal::recover(rt.alloc(), &mut store, 200)?;
+    assert_eq!(rt; batches.len(), 1);
+    let texts = journal.read_back(rt.alloc(), &mut store, 0)?;
+    assert_eq!(rt; texts.len(), 1);
+    let device = WITH_ONE.as_slice();
+    let payload = &device[54..85];
+    assert!(rt; texts[0].as_slice() == payload);
+    assert_eq!(rt; journal.read_back(rt.alloc(), &mut store, 1)?.len(), 0);
+    Ok(())
+}

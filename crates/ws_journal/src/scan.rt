@@ -51,7 +51,7 @@ pub(crate) struct Record {
 }
 
 /// What a record has before its payload, in bytes: its gate, its length, and in edition 2 its digest.
-fn start_bytes(edition: Edition) -> u64
+pub(crate) fn start_bytes(edition: Edition) -> u64
     ensures { result ≡ 5 + digest_len edition }
 {
     match edition {
@@ -87,7 +87,11 @@ fn judge_start(edition: Edition, bytes: &[u8]) -> Start
 }
 
 /// Reads what stands at the gate there.
-fn read_start<D: Disk>(disk: &mut D, edition: Edition, at: u64) -> Result<Start, DiskFailed>
+pub(crate) fn read_start<D: Disk>(
+    disk: &mut D,
+    edition: Edition,
+    at: u64,
+) -> Result<Start, DiskFailed>
     ensures start { IfOk result (λ start. D.honest disk.old → at < length (D.seen disk.old) → IsStart edition (drop at (D.seen disk.old)) start) }
     ensures reads { OnlyReads D.honest D.seen D.moment D.images D.faults disk.old disk.new }
     ensures cause { HasCause (D.faults disk.old) (D.faults disk.new) result }

@@ -13,6 +13,8 @@ mod make;
 mod record;
 mod recover;
 mod replace;
+#[cfg(test)]
+mod replacing_tests;
 mod scan;
 mod settle;
 mod store;

@@ -16,6 +16,8 @@ mod recover;
 #[cfg(test)]
 mod recover_tests;
 mod replace;
+#[cfg(test)]
+mod replacing_tests;
 mod scan;
 mod settle;
 mod store;

@@ -56,22 +56,30 @@ fn closes(table: &mut Deliveries, size: u64) {
     }
 }
 
-fn fates(table: &Deliveries, size: u64) {
+fn fates(table: &Deliveries, size: u64) -> u64 {
+    let mut answers = 0u64;
     for at in 0..CALLS {
-        let _ = table.fate(5, spread(at, size), NOW);
+        let open = table.fate(5, spread(at, size), NOW).is_some();
+        answers = answers.saturating_add(u64::from(open));
     }
+    answers
 }
 
-fn counts(table: &Deliveries) {
+fn counts(table: &Deliveries) -> u64 {
+    let mut answers = 0u64;
     for at in 0..CALLS {
-        let _ = table.owed(NOW + at);
+        answers = answers.saturating_add(table.owed(NOW + at));
     }
+    answers
 }
 
-fn next_pushes(table: &Deliveries, held: &Held) {
-    for _ in 0..CALLS {
-        let _ = table.next_due(NOW, held);
+fn next_pushes(table: &Deliveries, held: &Held) -> u64 {
+    let mut answers = 0u64;
+    for at in 0..CALLS {
+        let due = table.next_due(NOW + at, held).is_some();
+        answers = answers.saturating_add(u64::from(due));
     }
+    answers
 }
 
 fn carries(table: &mut Deliveries, size: u64) -> Result<(), NoMemory> {
@@ -97,20 +105,20 @@ pub fn measure(rt: &(impl Clock + Print), alloc: Global, size: u64) -> Result<()
     fill(&mut table, 0, size, 10)?;
     let start = Instant::now(rt)?;
     fill(&mut table, size, size.saturating_add(CALLS), 10)?;
-    row(rt, size, "born", start, CALLS * 10)?;
+    row(rt, size, "born", start, CALLS * 10, 0)?;
     let start = Instant::now(rt)?;
     carries(&mut table, size)?;
-    row(rt, size, "carry/pair", start, CALLS * 10)?;
+    row(rt, size, "carry/pair", start, CALLS * 10, 0)?;
     let start = Instant::now(rt)?;
     close_leases(&mut table, size);
-    row(rt, size, "close_lease/pair", start, CALLS * 10)?;
+    row(rt, size, "close_lease/pair", start, CALLS * 10, 0)?;
     measure_asking(rt, alloc, size, &table)?;
     let start = Instant::now(rt)?;
     misses(&mut table, size);
-    row(rt, size, "miss", start, CALLS)?;
+    row(rt, size, "miss", start, CALLS, 0)?;
     let start = Instant::now(rt)?;
     closes(&mut table, size);
-    row(rt, size, "close", start, CALLS)
+    row(rt, size, "close", start, CALLS, 0)
 }
 
 fn measure_asking(
@@ -120,17 +128,17 @@ fn measure_asking(
     table: &Deliveries,
 ) -> Result<()> {
     let start = Instant::now(rt)?;
-    fates(table, size);
-    row(rt, size, "fate", start, CALLS)?;
+    let answers = fates(table, size);
+    row(rt, size, "fate", start, CALLS, answers)?;
     let start = Instant::now(rt)?;
-    counts(table);
-    row(rt, size, "owed", start, CALLS)?;
+    let answers = counts(table);
+    row(rt, size, "owed", start, CALLS, answers)?;
     let none = Held::empty(alloc);
     let start = Instant::now(rt)?;
-    next_pushes(table, &none);
-    row(rt, size, "push/next_due", start, CALLS)?;
+    let answers = next_pushes(table, &none);
+    row(rt, size, "push/next_due", start, CALLS, answers)?;
     let held = held_pushes(alloc)?;
     let start = Instant::now(rt)?;
-    next_pushes(table, &held);
-    row(rt, size, "push/next_due/256", start, CALLS)
+    let answers = next_pushes(table, &held);
+    row(rt, size, "push/next_due/256", start, CALLS, answers)
 }

@@ -37,16 +37,21 @@ fn confirmed(table: &mut Intents) {
     }
 }
 
-fn firsts(table: &Intents, size: u64) {
+fn firsts(table: &Intents, size: u64) -> u64 {
+    let mut answers = 0u64;
     for at in 0..CALLS {
-        let _ = table.is_first(spread(at, size));
+        let first = table.is_first(spread(at, size));
+        answers = answers.saturating_add(u64::from(first));
     }
+    answers
 }
 
-fn next_works(table: &Intents, held: &Held) {
+fn next_works(table: &Intents, held: &Held) -> u64 {
+    let mut answers = 0u64;
     for _ in 0..CALLS {
-        let _ = table.next_due(held);
+        answers = answers.saturating_add(u64::from(table.next_due(held).is_some()));
     }
+    answers
 }
 
 /// Prints the time of each call.
@@ -55,22 +60,18 @@ pub fn measure(rt: &(impl Clock + Print), alloc: Global, size: u64) -> Result<()
     fill(alloc, &mut table, 0, size)?;
     let start = Instant::now(rt)?;
     fill(alloc, &mut table, size, size.saturating_add(CALLS))?;
-    row(rt, size, "asked", start, CALLS)?;
+    row(rt, size, "asked", start, CALLS, 0)?;
     let start = Instant::now(rt)?;
-    firsts(&table, size);
-    row(rt, size, "is_first", start, CALLS)?;
-    let none = Held::empty(alloc);
-    let start = Instant::now(rt)?;
-    next_works(&table, &none);
-    row(rt, size, "verify/next_due", start, CALLS)?;
+    let answers = firsts(&table, size);
+    row(rt, size, "is_first", start, CALLS, answers)?;
     let held = held_verifications(alloc)?;
     let start = Instant::now(rt)?;
-    next_works(&table, &held);
-    row(rt, size, "verify/next_due/256", start, CALLS)?;
+    let answers = next_works(&table, &held);
+    row(rt, size, "verify/next_due/256", start, CALLS, answers)?;
     let start = Instant::now(rt)?;
     missed(&mut table, size);
-    row(rt, size, "settle/unheard", start, CALLS)?;
+    row(rt, size, "settle/unheard", start, CALLS, 0)?;
     let start = Instant::now(rt)?;
     confirmed(&mut table);
-    row(rt, size, "settle/confirmed", start, CALLS)
+    row(rt, size, "settle/confirmed", start, CALLS, 0)
 }

@@ -26,36 +26,44 @@ pub fn fill(alloc: Global, table: &mut Leases, from: u64, to: u64) -> Result<(),
     Ok(())
 }
 
-fn gets(table: &Leases, size: u64) {
+fn gets(table: &Leases, size: u64) -> u64 {
+    let mut answers = 0u64;
     for at in 0..CALLS {
-        let _ = table.live(spread(at, size), NOW);
+        let live = table.live(spread(at, size), NOW);
+        answers = answers.saturating_add(u64::from(live));
     }
+    answers
 }
 
-fn finds(alloc: Global, table: &Leases, size: u64) -> Result<(), NoMemory> {
+fn finds(alloc: Global, table: &Leases, size: u64) -> Result<u64, NoMemory> {
+    let mut answers = 0u64;
     for at in 0..CALLS {
         let n = spread(at, size);
         let topic = topic(alloc, n / 10)?;
         let callback = key(alloc, b"http://sub.example/", n)?;
-        let _ = table.find(topic.as_slice(), callback.as_slice(), NOW);
+        let found = table.find(topic.as_slice(), callback.as_slice(), NOW);
+        answers = answers.saturating_add(u64::from(found.is_some()));
     }
-    Ok(())
+    Ok(answers)
 }
 
-fn lists(alloc: Global, table: &Leases, size: u64) -> Result<(), NoMemory> {
+fn lists(alloc: Global, table: &Leases, size: u64) -> Result<u64, NoMemory> {
+    let mut answers = 0u64;
     for at in 0..CALLS {
         let topic = topic(alloc, spread(at, size) / 10)?;
         for n in table.live_of_topic(topic.as_slice(), NOW) {
-            let _ = n;
+            answers = answers.saturating_add(n);
         }
     }
-    Ok(())
+    Ok(answers)
 }
 
-fn counts(table: &Leases) {
+fn counts(table: &Leases) -> u64 {
+    let mut answers = 0u64;
     for at in 0..CALLS {
-        let _ = table.count(NOW + at);
+        answers = answers.saturating_add(table.count(NOW + at));
     }
+    answers
 }
 
 fn ends(table: &mut Leases, size: u64) {
@@ -79,14 +87,14 @@ pub fn measure(rt: &(impl Clock + Print), alloc: Global, size: u64) -> Result<()
     fill(alloc, &mut table, 0, size)?;
     let start = Instant::now(rt)?;
     fill(alloc, &mut table, size, size.saturating_add(CALLS))?;
-    row(rt, size, "confirm", start, CALLS)?;
+    row(rt, size, "confirm", start, CALLS, 0)?;
     measure_asking(rt, alloc, size, &table)?;
     let start = Instant::now(rt)?;
     ends(&mut table, size);
-    row(rt, size, "end", start, CALLS)?;
+    row(rt, size, "end", start, CALLS, 0)?;
     let start = Instant::now(rt)?;
     expiries(&mut table);
-    row(rt, size, "take_expired", start, CALLS)
+    row(rt, size, "take_expired", start, CALLS, 0)
 }
 
 fn measure_asking(
@@ -96,15 +104,15 @@ fn measure_asking(
     table: &Leases,
 ) -> Result<()> {
     let start = Instant::now(rt)?;
-    gets(table, size);
-    row(rt, size, "live", start, CALLS)?;
+    let answers = gets(table, size);
+    row(rt, size, "live", start, CALLS, answers)?;
     let start = Instant::now(rt)?;
-    finds(alloc, table, size)?;
-    row(rt, size, "find", start, CALLS)?;
+    let answers = finds(alloc, table, size)?;
+    row(rt, size, "find", start, CALLS, answers)?;
     let start = Instant::now(rt)?;
-    lists(alloc, table, size)?;
-    row(rt, size, "live_of_topic", start, CALLS)?;
+    let answers = lists(alloc, table, size)?;
+    row(rt, size, "live_of_topic", start, CALLS, answers)?;
     let start = Instant::now(rt)?;
-    counts(table);
-    row(rt, size, "count", start, CALLS)
+    let answers = counts(table);
+    row(rt, size, "count", start, CALLS, answers)
 }

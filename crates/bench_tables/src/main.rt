@@ -1,5 +1,5 @@
-//! Measures the tables: `bench_tables LEASES..` prints lines `LEASES CALL NANOSECONDS`, the time of one
-//! call where so many leases are held, with ten pairs each; `bench_tables memory LEASES PAIRS` fills the
+//! Measures the tables: `bench_tables LEASES..` prints lines `LEASES CALL NANOSECONDS ANSWERS`, the time of
+//! one call where so many leases are held, with ten pairs each; `bench_tables memory LEASES PAIRS` fills the
 //! tables of leases and deliveries, so many pairs to each lease, and prints nothing.
 //!
 //! `bench/tables.sh` runs it and prints ratios. Without words it does nothing.
@@ -55,15 +55,17 @@ fn main(rt: HostRuntime) -> Result<()> {
     Ok(())
 }
 
-/// Prints the time of one call.
+/// Prints the time of one call, and how many of the calls answered something: what isn't used, the
+/// compiler would leave out.
 pub fn row(
     rt: &(impl Clock + Print),
     size: u64,
     name: &str,
     start: Instant,
     calls: u64,
+    answers: u64,
 ) -> Result<()> {
     let spent = start.elapsed(rt)?.as_nanos() / u128::from(calls.max(1));
-    println!(rt; "{size} {name} {spent}")?;
+    println!(rt; "{size} {name} {spent} {answers}")?;
     Ok(())
 }

@@ -33,17 +33,21 @@ fn fetches(
     Ok(())
 }
 
-fn latest(alloc: Global, table: &Topics, size: u64) -> Result<(), NoMemory> {
+fn latest(alloc: Global, table: &Topics, size: u64) -> Result<u64, NoMemory> {
+    let mut answers = 0u64;
     for at in 0..CALLS {
-        let _ = table.latest(topic(alloc, spread(at, size))?.as_slice());
+        let found = table.latest(topic(alloc, spread(at, size))?.as_slice());
+        answers = answers.saturating_add(u64::from(found.is_some()));
     }
-    Ok(())
+    Ok(answers)
 }
 
-fn next_fetches(table: &Topics, held: &Held) {
+fn next_fetches(table: &Topics, held: &Held) -> u64 {
+    let mut answers = 0u64;
     for _ in 0..CALLS {
-        let _ = table.next_due(held);
+        answers = answers.saturating_add(u64::from(table.next_due(held).is_some()));
     }
+    answers
 }
 
 fn missed(alloc: Global, table: &mut Topics, size: u64) -> Result<(), NoMemory> {
@@ -76,25 +80,25 @@ pub fn measure(rt: &(impl Clock + Print), alloc: Global, size: u64) -> Result<()
     pings(alloc, &mut table, 0, topics)?;
     let start = Instant::now(rt)?;
     fetches(alloc, &mut table, topics, more, 0)?;
-    row(rt, size, "fetched", start, CALLS)?;
+    row(rt, size, "fetched", start, CALLS, 0)?;
     let start = Instant::now(rt)?;
     pings(alloc, &mut table, topics, more)?;
-    row(rt, size, "pinged", start, CALLS)?;
+    row(rt, size, "pinged", start, CALLS, 0)?;
     let start = Instant::now(rt)?;
-    latest(alloc, &table, topics)?;
-    row(rt, size, "latest", start, CALLS)?;
+    let answers = latest(alloc, &table, topics)?;
+    row(rt, size, "latest", start, CALLS, answers)?;
     let held = held_fetches(alloc)?;
     let start = Instant::now(rt)?;
-    next_fetches(&table, &held);
-    row(rt, size, "fetch/next_due/256", start, CALLS)?;
+    let answers = next_fetches(&table, &held);
+    row(rt, size, "fetch/next_due/256", start, CALLS, answers)?;
     let start = Instant::now(rt)?;
     missed(alloc, &mut table, topics)?;
-    row(rt, size, "unfetched", start, CALLS)?;
+    row(rt, size, "unfetched", start, CALLS, 0)?;
     let start = Instant::now(rt)?;
     answered(alloc, &mut table, topics)?;
-    row(rt, size, "same", start, CALLS)?;
+    row(rt, size, "same", start, CALLS, 0)?;
     fetches(alloc, &mut table, topics, more, more)?;
     let start = Instant::now(rt)?;
     forget(&mut table, topics);
-    row(rt, size, "forget", start, CALLS)
+    row(rt, size, "forget", start, CALLS, 0)
 }

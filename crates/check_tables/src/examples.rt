@@ -86,7 +86,7 @@ fn gone_ends_lease_and_owed(rt: HostRuntime) -> Result<(), Fail> {
     }
     pushed(&mut events, 1_041, 1, How::Done)?;
     pushed(&mut events, 1_042, 2, How::Gone)?;
-    assert!(rt; stand_beside(alloc, &events, &[0, 10, 864_000])?);
+    assert!(rt; stand_beside(alloc, &events, &[0, 10, 863_959, 863_960])?);
     Ok(())
 }
 

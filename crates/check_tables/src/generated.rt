@@ -266,6 +266,18 @@ fn agree_later(alloc: Global, tables: &Tables, history: &History) -> Result<bool
             return Ok(false);
         }
     }
+    agree_at_ends(alloc, tables, history)
+}
+
+// At the moment at which each live lease ends.
+fn agree_at_ends(alloc: Global, tables: &Tables, history: &History) -> Result<bool, NoMemory> {
+    let live = ws_plain::live(alloc, &history.events, history.t)?;
+    for lease in &live {
+        let end = lease.sent.saturating_add(u64::from(lease.intent.granted));
+        if !agrees(alloc, tables, &history.events, end)? {
+            return Ok(false);
+        }
+    }
     Ok(true)
 }
 

@@ -5,3 +5,4 @@ pub mod Stepped
 pub mod Confirmation
 pub mod Renewal
 pub mod NewLease
+pub mod NewVersion

@@ -3,10 +3,13 @@
 #![tactic(auto)]
 
 mod allowing;
+mod apply;
 mod applying;
+mod births;
 mod confirming;
 mod due;
 mod ending;
+mod fetching;
 mod numbers;
 mod tables;
 

@@ -6,3 +6,4 @@ pub mod Confirmation
 pub mod Renewal
 pub mod NewLease
 pub mod Holding
+pub mod NewVersion

@@ -150,3 +150,11 @@ since_in_time since t last k l = omega arith
 -- a live lease is found by its own number
 pub live_number : (h : List Event) (t n : ℕ) (l : Lease) → Some l ≡ live_numbered h t n → l.intent.n ≡ n
 live_number h t n l k = eqb-true l.intent.n n (all_find (λ _. Unit {0}) (is_numbered n) l (live h t) (all_from (λ _. Unit {0}) (λ _. tt) (live h t)) (sym k)).1
+
+-- a confirmed intent is pending
+pub confirmed_waits : (e : Event) (h : List Event) (rows : IntentRows) (n sent : ℕ) → Legal (e ∷ h) → e.what ≡ Confirmed n sent → IntentsStand rows h → IsSome (number_at n rows.pending)
+confirmed_waits e h rows n sent l kind s = by (number_at n rows.pending) (pending_is h rows n s)
+  where
+    by : (o : Option Waiting) → option_map (λ w. w.intent) o ≡ pending_of h n → IsSome o
+    by None k = absurd (false≢true (ap (is_confirmable h sent e.t) k ∙ subst (λ (w : What). is_allowed w e.t h ≡ true) kind (allowed h e l.1)))
+    by (Some w) k = refl

@@ -41,11 +41,11 @@ find-filter p q (x ∷ xs) = one (q x) (p x) refl (find-filter p q xs)
     one true b e f = ap (λ z. cond z (Some x) (find p (filter q xs))) e ∙ ap (cond b (Some x)) f
     one false b e f = f
 
-find_same : {X : Type 0} (p q : X → Bool) (xs : List X) → AllByRecursion (λ x. p x ≡ q x) xs → find p xs ≡ find q xs
+pub find_same : {X : Type 0} (p q : X → Bool) (xs : List X) → AllByRecursion (λ x. p x ≡ q x) xs → find p xs ≡ find q xs
 find_same p q [] a = refl
 find_same p q (x ∷ xs) a = rw (a.0, find_same p q xs a.1)
 
-find_never : {X : Type 0} (xs : List X) → find (λ x. false) xs ≡ None
+pub find_never : {X : Type 0} (xs : List X) → find (λ x. false) xs ≡ None
 find_never [] = refl
 find_never (x ∷ xs) = find_never xs
 
@@ -125,11 +125,11 @@ or_none : {X : Type 0} (o : Option X) → option_or o None ≡ o
 or_none None = refl
 or_none (Some x) = refl
 
-map_or : {X Y : Type 0} (f : X → Y) (a b : Option X) → option_map f (option_or a b) ≡ option_or (option_map f a) (option_map f b)
+pub map_or : {X Y : Type 0} (f : X → Y) (a b : Option X) → option_map f (option_or a b) ≡ option_or (option_map f a) (option_map f b)
 map_or f None b = refl
 map_or f (Some x) b = refl
 
-nothing_shown : (o : Option OwedPush) → None ≡ option_map shown o → o ≡ None
+pub nothing_shown : (o : Option OwedPush) → None ≡ option_map shown o → o ≡ None
 nothing_shown None k = refl
 nothing_shown (Some w) k = absurd (cc)
 

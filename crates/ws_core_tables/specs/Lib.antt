@@ -1,4 +1,5 @@
 pub mod Allowed
+pub mod Births
 pub mod Numbers
 pub mod Rows
 pub mod Stands

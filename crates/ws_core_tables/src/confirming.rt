@@ -15,7 +15,7 @@ ghost use Rattle.ws_core_tables.specs.Stands.{CanFollow, GoesOn, StandsFor, is_n
 use crate::Tables;
 use ws_delivery::Deliveries;
 use ws_intent::Settle;
-use ws_model::{Cause, Event, Intent, Lease, NoMemory};
+use ws_model::{Cause, Event, Intent, Lease, Mode, NoMemory};
 
 impl Tables {
     /// The number of the live lease of a pending intent's topic and callback.
@@ -112,6 +112,17 @@ impl Tables {
         let _ = self.intents.settle(n, Settle::Confirmed);
         self.numbers = self.numbers.after(event);
         Ok(())
+    }
+
+    /// Whether the pending intent of a number asks for a subscription.
+    pub(crate) fn waiting_mode(&self, n: u64) -> Mode
+        requires { IsSome (number_at n self.now.intents.pending) }
+        ensures { IsSomeAnd (number_at n self.now.intents.pending) (λ w. w.intent.mode ≡ result) }
+    {
+        match self.intents.waiting(n) {
+            Some(waiting) => waiting.intent.mode,
+            None => unreachable!(),
+        }
     }
 
     /// A copy of the pending intent of a number.

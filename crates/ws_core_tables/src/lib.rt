@@ -3,11 +3,14 @@
 #![tactic(auto)]
 
 mod allowing;
+mod apply;
 mod applying;
+mod births;
 mod confirming;
 mod asking;
 mod due;
 mod ending;
+mod fetching;
 mod numbers;
 mod tables;
 

@@ -5,9 +5,9 @@
 mod allowing;
 mod apply;
 mod applying;
+mod asking;
 mod births;
 mod confirming;
-mod asking;
 mod due;
 mod ending;
 mod fetching;

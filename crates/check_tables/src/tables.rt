@@ -122,7 +122,7 @@ impl Tables {
         }
     }
 
-    // The first half of the numbers goes over in two steps, which are the same as the one.
+    // Even numbers take over in one call, and odd ones in two that come to the same.
     fn carried(&mut self, old: u64, new: u64, exp: u64, t: u64) -> Result<bool, NoMemory> {
         if t >= TIME_LIMIT || self.deliveries.end_of(new).is_some() {
             return Ok(false);

@@ -18,7 +18,7 @@ returns-in-First c = λ left some is.
     (number_there c.in-Some.gate.now c.args.bytes.now rest number.number.now number.rest.now bytes c.in-Some.ensures.cases.0 split.0 split.1 split.2) in (
       _,
       open_there c.in-Some.gate.now rest c.args.bytes.now left is c.in-Some.ensures.cases.0 c.from_be_bytes-len.result number.rest.now begins c.args.edition None number.rest.now
-          c.if-gate-ne-OPEN.false refl (subst (λ (e : Edition). KeepsOne e None) (sym c.in-First.is) tt),
+          (omega arith) refl (subst (λ (e : Edition). KeepsOne e None) (sym c.in-First.is) tt),
     )
 
 pub returns-in-Some-split_first_chunk-2 : goal.returns-in-Some-split_first_chunk-2
@@ -36,7 +36,7 @@ returns-in-Some-split_first_chunk-2 c = λ left some is.
     let long : length kept ≡ 32 = omega (arith, ap length digest.0, length-take 32 number.rest.now, digest.2) in (
       _,
       open_there c.in-Some.gate.now rest c.args.bytes.now left is c.in-Some.ensures.cases.0 c.from_be_bytes-len.result number.rest.now begins c.args.edition (Some kept) after
-          c.if-gate-ne-OPEN.false parts (subst (λ (e : Edition). KeepsOne e (Some kept)) (sym c.in-Second.is) long),
+          (omega arith) parts (subst (λ (e : Edition). KeepsOne e (Some kept)) (sym c.in-Second.is) long),
     )
 
 pub returns-in-None : goal.returns-in-None
@@ -48,4 +48,4 @@ returns-in-None c = λ left some is.
     let begins = subst (λ (len : ℕ). Begins (number_text w32) (NumberFits w32) rest len number.rest.now) (sym c.from_be_bytes-len.ensures)
     (number_there c.in-Some.gate.now c.args.bytes.now rest number.number.now number.rest.now bytes c.in-Some.ensures.cases.0 split.0 split.1 split.2) in
     subst (λ (e : Edition). StandsShort e left) (sym c.in-Second.is)
-    (short_digest c.in-Some.gate.now rest c.args.bytes.now left is c.in-Some.ensures.cases.0 c.from_be_bytes-len.result number.rest.now begins c.if-gate-ne-OPEN.false c.in-None.ensures.cases)
+    (short_digest c.in-Some.gate.now rest c.args.bytes.now left is c.in-Some.ensures.cases.0 c.from_be_bytes-len.result number.rest.now begins (omega arith) c.in-None.ensures.cases)

@@ -5,6 +5,7 @@
 mod allowing;
 mod apply;
 mod applying;
+mod asking;
 mod births;
 mod confirming;
 mod due;

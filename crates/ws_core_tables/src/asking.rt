@@ -1,14 +1,18 @@
-// What the tables hold, as answers to requests go by it.
-ghost use Rattle.std.specs.Prelude.{◌≡◌, ◌≤◌, ◌<◌, ◌^◌, ℕ, List, length, option_map};
+// What the tables hold, at a moment where it matters.
+ghost use Rattle.std.specs.Prelude.{◌≡◌, ◌≤◌, ◌<◌, ◌^◌, ◌==◌, ℕ, List, IfSome, Some, find, length, option_map};
 ghost use Rattle.ws_model.specs.declared.event.Event.{Event};
-ghost use Rattle.ws_model.specs.Answer.{has_live_lease, held_leases};
-ghost use Rattle.ws_model.specs.Intents.{pending};
+ghost use Rattle.std.specs.Option.{option_copied};
+ghost use Rattle.ws_model.specs.Answer.{has_live_lease, held_leases, pending_subscriptions};
+ghost use Rattle.ws_model.specs.Intents.{notices, pending};
+ghost use Rattle.ws_model.specs.Leases.{live};
 ghost use Rattle.ws_model.specs.Legal.{Legal};
 ghost use Rattle.ws_model.specs.Moment.{intent_number, serial};
 ghost use Rattle.ws_model.specs.Revocation.{live_lease_of};
+ghost use Rattle.ws_model.specs.Versions.{fetches, latest, versions};
 ghost use Rattle.ws_core_tables.specs.Stands.{StandsFor};
 
 use crate::Tables;
+use ws_model::Version;
 
 impl Tables {
     /// The greatest serial so far.
@@ -56,5 +60,48 @@ impl Tables {
         ensures stands { (h : List Event) (since : ℕ) → StandsFor h since self.now → Legal h → since ≤ t → result ≡ option_map (λ l. l.intent.n) (live_lease_of h t topic.now callback.now) }
     {
         self.leases.find(topic, callback, t)
+    }
+
+    /// How many pending intents ask to subscribe.
+    pub fn subscriptions(&self) -> u64
+        ensures stands { (h : List Event) (since : ℕ) → StandsFor h since self.now → Legal h → result ≡ length (pending_subscriptions h) }
+    {
+        self.intents.subscriptions()
+    }
+
+    /// How many notices are owed.
+    pub fn notices(&self) -> u64
+        ensures stands { (h : List Event) (since : ℕ) → StandsFor h since self.now → Legal h → result ≡ length (notices h) }
+    {
+        self.intents.notices()
+    }
+
+    /// How many leases are live at `t`.
+    pub fn live_leases(&self, t: u64) -> u64
+        requires { t < 2 ^ 48 }
+        ensures stands { (h : List Event) (since : ℕ) → StandsFor h since self.now → Legal h → since ≤ t → result ≡ length (live h t) }
+    {
+        self.leases.count(t)
+    }
+
+    /// How many topics have a version.
+    pub fn topics(&self) -> u64
+        ensures stands { (h : List Event) (since : ℕ) → StandsFor h since self.now → Legal h → result ≡ length (latest h) }
+    {
+        self.topics.topics()
+    }
+
+    /// How many fetches are owed.
+    pub fn fetches(&self) -> u64
+        ensures stands { (h : List Event) (since : ℕ) → StandsFor h since self.now → Legal h → result ≡ length (fetches h) }
+    {
+        self.topics.fetches()
+    }
+
+    /// The kept version of a number.
+    pub fn version(&self, ver: u64) -> Option<&Version>
+        ensures stands { (h : List Event) (since : ℕ) → StandsFor h since self.now → IfSome (option_copied result) (λ v. find (λ w. w.ver == ver) (versions h) ≡ Some v) }
+    {
+        self.topics.version(ver)
     }
 }

@@ -7,6 +7,7 @@ ghost use Rattle.ws_model.specs.Intents.{notices, pending};
 ghost use Rattle.ws_model.specs.Leases.{live};
 ghost use Rattle.ws_model.specs.Legal.{Legal};
 ghost use Rattle.ws_model.specs.Moment.{intent_number, serial};
+ghost use Rattle.ws_model.specs.Pairs.{owed};
 ghost use Rattle.ws_model.specs.Revocation.{live_lease_of};
 ghost use Rattle.ws_model.specs.Versions.{fetches, latest, versions};
 ghost use Rattle.ws_core_tables.specs.Stands.{StandsFor};
@@ -96,6 +97,13 @@ impl Tables {
         ensures stands { (h : List Event) (since : ℕ) → StandsFor h since self.now → Legal h → result ≡ length (fetches h) }
     {
         self.topics.fetches()
+    }
+
+    /// How many pairs are owed at `t`.
+    pub fn owed(&self, t: u64) -> u64
+        ensures stands { (h : List Event) (since : ℕ) → StandsFor h since self.now → Legal h → since ≤ t → result ≡ length (owed h t) }
+    {
+        self.deliveries.owed(t)
     }
 
     /// The kept version of a number.

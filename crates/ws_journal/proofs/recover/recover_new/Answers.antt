@@ -1,7 +1,6 @@
 use Rattle.std.proofs.Common.{inl, [], sym, subst}
 use Rattle.ws_journal.specs.declared.store.Edition.TheVariants.{Second}
 use Rattle.ws_journal.specs.Device.{AreBatches}
-use Rattle.ws_journal.proofs.Spare.{spare_only}
 use Rattle.ws_journal.proofs.Opening.{stands_new}
 use Rattle.ws_journal.proofs.Spare.{spare_only}
 use Rattle.ws_journal.proofs.recover.recover_new.Goals as goal

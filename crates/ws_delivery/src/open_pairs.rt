@@ -21,7 +21,7 @@ use ws_order::{NextTry, Order, Room};
 pub struct OpenPairs {
     alloc: Global,
     pairs: Pairs,
-    heads: Order,
+    heads: Order<NextTry>,
 }
 
 impl Model for OpenPairs {

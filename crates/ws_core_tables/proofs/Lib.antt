@@ -7,3 +7,4 @@ pub mod Renewal
 pub mod NewLease
 pub mod Holding
 pub mod NewVersion
+pub mod Together

@@ -9,3 +9,4 @@ pub mod Holding
 pub mod NewVersion
 pub mod HeldBodies
 pub mod LeaseCounts
+pub mod Together

@@ -7,6 +7,7 @@ mod apply;
 mod applying;
 mod asking;
 mod births;
+mod committing;
 mod confirming;
 mod due;
 mod ending;

@@ -6,3 +6,4 @@ pub mod Asking
 pub mod Stores
 pub mod Literal
 pub mod Keeping
+pub mod Restoring

@@ -1,4 +1,5 @@
 pub mod ByTopic
+pub mod Restored
 pub mod Rows
 pub mod Stored
 pub mod Stands

@@ -9,7 +9,7 @@ mod rows;
 mod table;
 mod versions;
 
-pub use rows::OwedFetch;
+pub use rows::{LastPing, OwedFetch};
 pub use table::Topics;
 
 #[cfg(test)]

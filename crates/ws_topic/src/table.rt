@@ -16,10 +16,12 @@ ghost use Rattle.ws_model.specs.Versions.{fetches, latest, latest_of, versions};
 ghost use Rattle.ws_topic.specs.Besides.{bodies_besides};
 ghost use Rattle.ws_topic.specs.ByTopic.{at_topic, with_topic};
 ghost use Rattle.ws_topic.specs.Rows.{Rows, number_at, with_row, size, may_forget, answered, missed, after_answer, after_miss, without_version, kept_of};
+ghost use Rattle.ws_topic.specs.Restored.{last_ping, pinged_rows, restored, with_fetches};
 ghost use Rattle.ws_topic.specs.Stands.{StandsFor, version_number};
+ghost use Rattle.ws_topic.specs.Stored.{IsListed};
 
 use crate::fetches::Fetches;
-use crate::rows::OwedFetch;
+use crate::rows::{LastPing, OwedFetch};
 use crate::versions::Versions;
 use std::alloc::Global;
 use std::collections::BTreeSet;
@@ -65,6 +67,30 @@ impl Topics {
         ensures err { OnErr result (self.new ≡ self.old) }
     {
         self.fetches.ping(topic, serial)
+    }
+
+    /// The latest ping of a topic whose fetch is owed.
+    pub fn last_ping(&self, topic: &[u8]) -> Option<LastPing>
+        ensures ping { result ≡ last_ping topic.now self.now }
+        ensures listed { IsListed self.now.fetches }
+    {
+        // How the fetches are held is known from their number.
+        let _ = self.fetches.count();
+        let fetch = self.fetches.get(topic)?;
+        Some(LastPing {
+            serial: fetch.serial,
+            missed: fetch.missed,
+        })
+    }
+
+    /// Takes a ping of a topic back: its fetch is owed from the ping before on, with the fetches that were
+    /// missed since then, or not owed where there was none. It takes no memory. A topic whose fetch isn't
+    /// owed changes nothing.
+    pub fn restore(&mut self, topic: &[u8], before: Option<LastPing>)
+        ensures rows { self.new ≡ with_fetches (restored topic.now before self.old.fetches) self.old }
+        ensures undoes { (rows : Rows) (serial : ℕ) → IsListed rows.fetches → before ≡ last_ping topic.now rows → self.old ≡ pinged_rows topic.now serial rows → self.new ≡ rows }
+    {
+        self.fetches.restore(topic, before);
     }
 
     /// Adds a version, which is the latest of its topic then and settles the fetch of a ping that isn't

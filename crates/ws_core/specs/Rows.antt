@@ -1,0 +1,7 @@
+-- The core as contracts see it: what the tables show, and what became of each pair (own).
+use Rattle.ws_core_tables.specs.Rows.{Rows as TableRows}
+use Rattle.ws_fate.specs.Rows.{Rows as FateRows}
+
+pub record Rows : Type 0 where
+  pub tables : TableRows
+  pub fates : FateRows

@@ -1,0 +1,7 @@
+//! The hub's core: the tables with what became of each pair. It applies what happened, and says what may
+//! follow, what is due and what a request makes.
+#![tactic(auto)]
+
+mod core;
+
+pub use core::Core;

@@ -2,6 +2,6 @@
 //! follow, what is due and what a request makes.
 #![tactic(auto)]
 
-mod core;
+mod whole;
 
-pub use core::Core;
+pub use whole::Core;

@@ -7,12 +7,14 @@ use std::marker::Model;
 use ws_core_tables::Tables;
 use ws_fate::Fates;
 
-/// The hub's core: the four tables, and what became of each pair of a version and a lease. Contracts see it
-/// as the record of what both show.
+/// The hub's core: the four tables, what became of each pair of a version and a lease, and how many pairs
+/// stand open. Contracts see it as the record of what these show.
 #[derive(Drop)]
 pub struct Core {
+    pub(crate) alloc: Global,
     pub(crate) tables: Tables,
     pub(crate) fates: Fates,
+    pub(crate) open_pairs: u64,
 }
 
 impl Model for Core {
@@ -20,7 +22,7 @@ impl Model for Core {
 
     ghost Value = { Rows };
 
-    ghost view = { λ s. record { tables = s.tables; fates = s.fates } };
+    ghost view = { λ s. record { tables = s.tables; fates = s.fates; open_pairs = s.open_pairs } };
 }
 
 impl Core {
@@ -29,8 +31,10 @@ impl Core {
         ensures stands { StandsFor [] 0 result }
     {
         Core {
+            alloc,
             tables: Tables::empty(alloc),
             fates: Fates::empty(alloc),
+            open_pairs: 0,
         }
     }
 }

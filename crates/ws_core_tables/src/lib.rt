@@ -13,6 +13,7 @@ mod due;
 mod ending;
 mod fetching;
 mod keeping;
+mod looking;
 mod numbers;
 mod tables;
 

@@ -1,5 +1,5 @@
 -- What a call of a hub is answered at, and what it leaves (own).
-use Rattle.std.specs.Prelude.{◌≡◌, ℕ, suc, ◌+◌, ◌-◌, ◌^◌, ◌<◌, ◌≤◌, min, max, Bool, true, false, List, [], ◌∷◌, ◌++◌, length, Result, Ok, Err}
+use Rattle.std.specs.Prelude.{◌≡◌, ℕ, suc, ◌+◌, ◌-◌, ◌^◌, ◌<◌, ◌≤◌, min, max, Bool, true, false, List, [], ◌∷◌, ◌++◌, length, Result, Ok, Err, ⊤}
 use Rattle.ws_model.specs.declared.account.Account.{Account}
 use Rattle.ws_model.specs.declared.answers.Kind.{Kind}
 use Rattle.ws_model.specs.declared.answers.Kind.TheVariants.{Journal}
@@ -86,3 +86,9 @@ pub record Answered (sole : Bool) (Seen : List Event → Type 0) (uses : Bool) (
 pub record IsDiskCause {T : Type 0} (old new : ℕ) (result : Result T DeskFault) : Type 0 where
   pub later : old ≤ new
   pub failed : result ≡ Err Disk → Rose old new
+
+-- a hub without a journal says neither that the disk failed nor that the journal is full
+abbrev pub IsUnstored : {T : Type 0} → Result T DeskFault → Type 0
+IsUnstored (Err Disk) = ⊥
+IsUnstored (Err (IsFull Journal held asked limit)) = ⊥
+IsUnstored result = ⊤

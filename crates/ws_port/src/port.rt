@@ -1,10 +1,11 @@
 // The calls of a hub.
-ghost use Rattle.std.specs.Prelude.{◌≡◌, ℕ, Bool, List, true};
+ghost use Rattle.std.specs.Prelude.{◌≡◌, ◌≤◌, ℕ, Bool, List, true, false};
 ghost use Rattle.ws_model.specs.declared.event.Event.{Event};
 ghost use Rattle.ws_model.specs.declared.settings.Settings.{Settings};
 ghost use Rattle.ws_model.specs.Legal.{Legal};
+ghost use Rattle.ws_model.specs.Moment.{time};
 ghost use Rattle.ws_form.specs.Answers.{IsSound};
-ghost use Rattle.ws_port.specs.Calls.{Accounts, Answered, HeldTicket, HubTime, IsDiskCause, Said, uses_time};
+ghost use Rattle.ws_port.specs.Calls.{Accounts, Answered, HeldTicket, HubTime, IsDiskCause, IsUnstored, Said, uses_time};
 ghost use Rattle.ws_port.specs.Requests.{answer, revocation_answer};
 
 use crate::DeskFault;
@@ -26,6 +27,9 @@ pub trait Port {
     /// Whether nobody else uses the hub.
     ghost sole: { Bool };
 
+    /// Whether the hub keeps a journal.
+    ghost stored: { Bool };
+
     /// The port has seen this history, newest first.
     ghost seen: { Self → List Event → Type 0 };
 
@@ -44,6 +48,9 @@ pub trait Port {
     /// What it has seen is legal.
     ghost legal: { (port : Self) (h : List Event) → seen port h → Legal h };
 
+    /// Where nobody else uses the hub, no history that the port has seen is later than the last hub time.
+    ghost timely: { sole ≡ true → (port : Self) (h : List Event) → seen port h → time h ≤ moment port };
+
     /// It has seen some history.
     ghost begun: { (port : Self) → (h : List Event) × seen port h };
 
@@ -56,6 +63,7 @@ pub trait Port {
             (Said (λ g. answer g (moment self.new) ask.now (settings self.old).policy) result) h }
         ensures time { HubTime sole (uses_time result) now (moment self.old) (moment self.new) }
         ensures cause { IsDiskCause (faults self.old) (faults self.new) result }
+        ensures unstored { stored ≡ false → IsUnstored result }
         ensures settings { settings self.new ≡ settings self.old }
         ensures tickets { tickets self.new ≡ tickets self.old };
 
@@ -66,6 +74,7 @@ pub trait Port {
             (Said (λ g. revocation_answer g (moment self.new) topic.now callback.now) result) h }
         ensures time { HubTime sole (uses_time result) now (moment self.old) (moment self.new) }
         ensures cause { IsDiskCause (faults self.old) (faults self.new) result }
+        ensures unstored { stored ≡ false → IsUnstored result }
         ensures settings { settings self.new ≡ settings self.old }
         ensures tickets { tickets self.new ≡ tickets self.old };
 

@@ -1,20 +1,10 @@
 -- What an answer to a request is, as a call gives it (WebSub sections 5.1 to 5.3, by the definition of answers).
 use Rattle.std.specs.Prelude.{◌≡◌, ℕ, Bool, true, false, List, [], ◌∷◌, Result, Ok, Err, Vec}
-use Rattle.ws_model.specs.declared.event.Event.{Event}
 use Rattle.ws_model.specs.declared.event.What.{What}
 use Rattle.ws_model.specs.declared.answers.Kind.{Kind}
-use Rattle.ws_model.specs.declared.settings.Policy.{Policy}
-use Rattle.ws_model.specs.Answer.{Answer, Events, Full as IsFull, subscribe_answer, unsubscribe_answer, publish_answer}
-use Rattle.ws_form.specs.declared.ask.Ask.{Ask}
-use Rattle.ws_form.specs.declared.ask.Ask.TheVariants.{Subscribe, Unsubscribe, Publish}
+use Rattle.ws_model.specs.Answer.{Answer, Events, Full as IsFull}
 use Rattle.ws_answer.specs.declared.fault.CoreFault.{CoreFault}
 use Rattle.ws_answer.specs.declared.fault.CoreFault.TheVariants.{Full, NoMemory}
-
--- the answer to an ask at t, under this policy
-abbrev pub answer : List Event → ℕ → Ask → Policy → Answer
-answer h t (Subscribe topic echo callback secret granted) policy = subscribe_answer h t policy.allow policy.alg topic echo callback secret granted
-answer h t (Unsubscribe topic echo callback) policy = unsubscribe_answer h policy.alg topic echo callback
-answer h t (Publish topics) policy = publish_answer h t topics
 
 -- the call gives this answer, but that there may be no memory
 abbrev pub Answers : {A : Type 0} → Answer → Result (Vec What A) CoreFault → Type 0

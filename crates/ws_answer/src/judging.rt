@@ -4,7 +4,8 @@ ghost use Rattle.ws_model.specs.declared.event.Event.{Event};
 ghost use Rattle.ws_model.specs.Legal.{Legal};
 ghost use Rattle.ws_model.specs.Revocation.{revocation};
 ghost use Rattle.ws_core_tables.specs.Stands.{StandsFor};
-ghost use Rattle.ws_answer.specs.Judged.{answer, Answers};
+ghost use Rattle.ws_port.specs.Requests.{answer};
+ghost use Rattle.ws_answer.specs.Judged.{Answers};
 
 use crate::CoreFault;
 use crate::pings::publish;

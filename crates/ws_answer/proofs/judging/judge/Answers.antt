@@ -1,6 +1,7 @@
 use Rattle.std.proofs.Common.{sym, subst}
 use Rattle.ws_model.specs.Answer.{subscribe_answer}
-use Rattle.ws_answer.specs.Judged.{Answers, answer}
+use Rattle.ws_port.specs.Requests.{answer}
+use Rattle.ws_answer.specs.Judged.{Answers}
 use Rattle.ws_answer.proofs.judging.judge.Goals as goal
 
 pub returns-in-Publish : goal.returns-in-Publish

@@ -207,7 +207,7 @@ found_open h t v n x l k = by (find (is_it v n) (owed h t)) refl (sym (find-map 
     by None e m = absurd (cc)
     by (Some p) e m =
         let a = all_find (λ q. (pair_of h q.version.ver q.lease.intent.n ≡ Some q) × (is_owed (fate h q t) ≡ true)) (is_it v n) p (owed h t)
-            (all_filter_with (λ q. pair_of h q.version.ver q.lease.intent.n ≡ Some q) (λ q. is_owed (fate h q t)) (pairs h) (pairs_only h l)) e in
+        (all_filter_with (λ q. pair_of h q.version.ver q.lease.intent.n ≡ Some q) (λ q. is_owed (fate h q t)) (pairs h) (pairs_only h l)) e in
         let q = and_parts (p.version.ver == v) (p.lease.intent.n == n) a.1 in
         let at : pair_of h v n ≡ Some p = sym (λ j. pair_of h (eqb-true p.version.ver v q.0 j) (eqb-true p.lease.intent.n n q.1 j)) ∙ a.0.0 in
         ap (λ o. option_map standing (option_map (λ q. fate h q t) o)) at ∙ ap (λ s. Some s) (open_one (fate h p t) a.0.1)

@@ -1,3 +1,7 @@
 pub mod Counted
 pub mod Ending
+pub mod Acceptance
+pub mod Beginning
+pub mod FateOf
+pub mod Following
 pub mod Going

@@ -2,6 +2,10 @@
 //! follow, what is due and what a request makes.
 #![tactic(auto)]
 
+mod accepting;
+mod asking;
+mod quiet;
+mod sound;
 mod whole;
 
 pub use whole::Core;

@@ -3,7 +3,10 @@ pub mod Onward
 pub mod FirstDue
 pub mod Stepped
 pub mod Confirmation
+pub mod Reasons
 pub mod Renewal
 pub mod NewLease
 pub mod Holding
 pub mod NewVersion
+pub mod HeldBodies
+pub mod LeaseCounts

@@ -3,3 +3,4 @@ pub mod Births
 pub mod Numbers
 pub mod Rows
 pub mod Stands
+pub mod Besides

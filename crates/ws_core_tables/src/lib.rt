@@ -11,6 +11,8 @@ mod confirming;
 mod due;
 mod ending;
 mod fetching;
+mod keeping;
+mod looking;
 mod numbers;
 mod tables;
 

@@ -7,3 +7,4 @@ pub mod Carrying
 pub mod Counting
 pub mod Owing
 pub mod OpenVersions
+pub mod OwedVersions

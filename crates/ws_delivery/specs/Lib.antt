@@ -4,3 +4,4 @@ pub mod NextDue
 pub mod Stands
 pub mod Agrees
 pub mod OpenOf
+pub mod OwedVersions

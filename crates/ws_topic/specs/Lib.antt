@@ -2,3 +2,4 @@ pub mod ByTopic
 pub mod Rows
 pub mod Stored
 pub mod Stands
+pub mod Besides

@@ -1,6 +1,7 @@
 //! The table of topics: their latest and kept versions, and the fetches that are owed.
 #![tactic(auto)]
 
+mod besides;
 mod by_topic;
 mod fetches;
 pub mod laws;

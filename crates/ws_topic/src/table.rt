@@ -2,7 +2,9 @@
 ghost use Rattle.std.specs.Prelude.{◌≡◌, ◌∷◌, [], not, ℕ, List, OnOk, OnErr, IfSome, Some, None, find, length, option_map, cond, ◌==◌, ◌&&◌, bytes_eq};
 ghost use Rattle.std.specs.Option.{option_copied};
 ghost use Rattle.std.specs.List.{sum_by};
+ghost use Rattle.std.specs.List.Sorted.{IsStrictlySortedBy};
 ghost use Rattle.std.specs.Map.{keys_of, values_of};
+ghost use Rattle.std.specs.Ordering.{nat_cmp};
 ghost use Rattle.ws_model.specs.declared.event.Event.{Event};
 ghost use Rattle.ws_model.specs.declared.event.Tally.{Tally};
 ghost use Rattle.ws_model.specs.declared.event.What.TheVariants.{Fetched, Pinged, Same, Unfetched, Tally as TallyOf};
@@ -11,6 +13,7 @@ ghost use Rattle.ws_model.specs.Due.{due_fetches, is_out};
 ghost use Rattle.ws_model.specs.Legal.{Legal};
 ghost use Rattle.ws_model.specs.Moment.{serial};
 ghost use Rattle.ws_model.specs.Versions.{fetches, latest, latest_of, versions};
+ghost use Rattle.ws_topic.specs.Besides.{bodies_besides};
 ghost use Rattle.ws_topic.specs.ByTopic.{at_topic, with_topic};
 ghost use Rattle.ws_topic.specs.Rows.{Rows, number_at, with_row, size, may_forget, answered, missed, after_answer, after_miss, without_version, kept_of};
 ghost use Rattle.ws_topic.specs.Stands.{StandsFor, version_number};
@@ -19,6 +22,7 @@ use crate::fetches::Fetches;
 use crate::rows::OwedFetch;
 use crate::versions::Versions;
 use std::alloc::Global;
+use std::collections::BTreeSet;
 use std::marker::Model;
 use ws_model::{Bytes, Held, Key, NoMemory, Version};
 
@@ -159,8 +163,18 @@ impl Topics {
 
     /// How many bytes the bodies of the kept versions have.
     pub fn bodies(&self) -> u64
-        ensures { result ≡ sum_by size (values_of self.now.versions) }
+        ensures bodies { result ≡ sum_by size (values_of self.now.versions) }
+        ensures ordered { IsStrictlySortedBy nat_cmp (keys_of self.now.versions) }
     {
         self.versions.bodies()
+    }
+
+    /// How many bytes the bodies have of the kept versions whose numbers are among these, or that are
+    /// the latest of another topic. It goes over all kept versions.
+    pub fn bodies_besides(&self, topic: &[u8], among: &BTreeSet<u64>) -> u64
+        ensures bodies { result ≡ bodies_besides topic.now among.now self.now.latest self.now.versions }
+        ensures ordered { IsStrictlySortedBy nat_cmp (keys_of self.now.versions) }
+    {
+        self.versions.bodies_besides(topic, among)
     }
 }

@@ -1,3 +1,5 @@
+pub mod Counted
+pub mod Ending
 pub mod Acceptance
 pub mod Beginning
 pub mod FateOf

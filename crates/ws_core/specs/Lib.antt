@@ -1,3 +1,4 @@
+pub mod Pairs
 pub mod Follows
 pub mod Rows
 pub mod Stands

@@ -1,0 +1,4 @@
+pub mod NewVersion
+pub mod Bounds
+pub mod Pending
+pub mod Replies

@@ -3,6 +3,7 @@ pub mod Onward
 pub mod FirstDue
 pub mod Stepped
 pub mod Confirmation
+pub mod Reasons
 pub mod Renewal
 pub mod NewLease
 pub mod Holding

@@ -1,7 +1,10 @@
-pub mod Counted
-pub mod Ending
 pub mod Acceptance
+pub mod Bearing
 pub mod Beginning
+pub mod Counted
+pub mod Closing
+pub mod Ending
 pub mod FateOf
 pub mod Following
 pub mod Going
+pub mod OwedPairs

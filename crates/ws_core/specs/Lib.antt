@@ -1,4 +1,5 @@
-pub mod Pairs
 pub mod Follows
+pub mod Pairs
 pub mod Rows
+pub mod Spent
 pub mod Stands

@@ -4,8 +4,14 @@
 
 mod accepting;
 mod asking;
+mod births;
+mod confirmed;
+mod ends;
+mod fetched;
+mod pushed;
 mod quiet;
 mod sound;
+mod steps;
 mod whole;
 
 pub use whole::Core;

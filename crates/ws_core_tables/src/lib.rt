@@ -16,6 +16,7 @@ mod keeping;
 mod looking;
 mod numbers;
 mod tables;
+mod walking;
 
 pub use due::DueWork;
 pub use numbers::{Greatest, Numbers};

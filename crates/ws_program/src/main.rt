@@ -30,7 +30,7 @@ settings, in any order, each at most once but for --allow:
          --allow PREFIX         what keys of topics may begin with, up to 16 times (anything)
 ";
 
-const VERSION: &str = "tubhollow 0.1.0 (proved with rattle-kit-13b logic dac8208d650f15bf)";
+const VERSION: &str = "tubhollow 0.1.0 (proved with rattle-kit-13f logic dac8208d650f15bf)";
 
 // Answers a word that asks about the program itself.
 fn about(rt: &impl Print, words: &[String]) -> io::Result<bool> {

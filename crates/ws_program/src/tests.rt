@@ -2,7 +2,7 @@
 use crate::command::run;
 use std::alloc::Global;
 use std::test::Fail;
-use ws_link::{MemSink, MemSource, Status};
+use ws_link::{MemSink, MemSource, Sink, Status, WriteFailed};
 
 const BASE: &str =
     "hub.mode=subscribe&hub.topic=http%3A%2F%2Fpub.example%2Fx&hub.callback=http%3A%2F%2Fsub.example%2Fcb";
@@ -314,6 +314,32 @@ fn a_source_fails_in_mid_form(rt: HostRuntime) -> Result<(), Fail> {
     Ok(())
 }
 
+// A sink that takes at most three bytes at each call, and fails at its sixth.
+#[derive(Drop)]
+struct SlowSink {
+    written: Vec<u8>,
+    calls: u64,
+    faults: u64,
+}
+
+impl Sink for SlowSink {
+    ghost use Rattle.std.specs.Prelude.{None};
+
+    ghost written = { λ _. None };
+
+    ghost faults = { λ s. s.faults };
+
+    fn give(&mut self, bytes: &[u8]) -> Result<usize, WriteFailed> {
+        let part = &bytes[..bytes.len().min(3)];
+        self.calls = self.calls.saturating_add(1);
+        if self.calls > 5 || self.written.extend_from_slice(part).is_err() {
+            self.faults = self.faults.saturating_add(1);
+            return Err(WriteFailed);
+        }
+        Ok(part.len())
+    }
+}
+
 #[test]
 fn a_sink_fails_in_mid_answer(rt: HostRuntime) -> Result<(), Fail> {
     let alloc = rt.alloc();
@@ -331,5 +357,16 @@ fn a_sink_fails_in_mid_answer(rt: HostRuntime) -> Result<(), Fail> {
         Status::WriteFailed
     );
     assert_eq!(rt; small.written().len(), 0);
+    let mut source = MemSource::made(alloc, b"form 0\n\nend\n", &[], &[])?;
+    let mut slow = SlowSink {
+        written: Vec::new(alloc),
+        calls: 0,
+        faults: 0,
+    };
+    assert_eq!(rt;
+        run(alloc, &words, &mut source, &mut slow),
+        Status::WriteFailed
+    );
+    assert_eq!(rt; slow.written.as_slice(), b"answer 400 hub.".as_slice());
     Ok(())
 }

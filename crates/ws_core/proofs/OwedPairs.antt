@@ -70,7 +70,7 @@ some_of a b c d m p q r = omega arith
 pub enough_open : (h : List Event) (since t : ℕ) (rows : Rows) (ends : List (ℕ × ℕ)) → StandsFor h since rows → Legal h → since ≤ t → AreApart ends → ((v n : ℕ) → is_listed v n ends ≡ true → list_any (is_pair v n) (pushes h t) ≡ true) → length ends ≤ rows.open_pairs
 enough_open h since t rows ends s l le apart there =
     let fewer = some_of (length (filter (λ x. is_listed x.version.ver x.lease.intent.n ends) (pushes h t))) (length (filter (λ x. not (is_listed x.version.ver x.lease.intent.n ends)) (pushes h t))) (length (pushes h t)) (length (owed h t)) rows.open_pairs
-        (parted (λ x. is_listed x.version.ver x.lease.intent.n ends) (pushes h t)) (length-map (owed h t) (owed_push h)) (s.enough t le) in
+    (parted (λ x. is_listed x.version.ver x.lease.intent.n ends) (pushes h t)) (length-map (owed h t) (owed_push h)) (s.enough t le) in
     let same = number_listed h t ends l apart there in
     at_most (length (filter (λ x. is_listed x.version.ver x.lease.intent.n ends) (pushes h t))) (length ends) rows.open_pairs same fewer
   where

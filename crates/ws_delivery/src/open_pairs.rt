@@ -12,9 +12,9 @@ ghost use Rattle.ws_delivery.specs.OwedVersions.{is_owed_version};
 ghost use Rattle.std.specs.BTreeSet.{contains};
 ghost use Rattle.std.specs.Ordering.{nat_cmp};
 
-use crate::{OpenOf, OpenPair};
 use crate::heads::{self, Pairs};
 use crate::owed_versions::owed_versions;
+use crate::{OpenOf, OpenPair};
 use std::alloc::Global;
 use std::collections::{BTreeMap, BTreeSet};
 use std::marker::Model;

@@ -3,3 +3,5 @@ pub mod Beginning
 pub mod FateOf
 pub mod Following
 pub mod Going
+pub mod InTurn
+pub mod Needed

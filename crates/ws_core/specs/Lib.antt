@@ -1,3 +1,4 @@
 pub mod Follows
+pub mod InUse
 pub mod Rows
 pub mod Stands

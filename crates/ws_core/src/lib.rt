@@ -4,6 +4,8 @@
 
 mod accepting;
 mod asking;
+pub mod laws;
+mod looking;
 mod quiet;
 mod sound;
 mod whole;

@@ -15,6 +15,12 @@ earlier s m t k l = omega arith
 not_before : (t m : ℕ) → t ≤ max t m
 not_before t m = omega arith
 
+not_before_either : (s t m : ℕ) → s ≤ m → s ≤ max t m
+not_before_either s t m k = omega arith
+
+pub in_order : (rows : Rows) (e : Event) (history : HasHistory rows) → history.since ≤ max e.t (last_time history.past)
+in_order rows e history = not_before_either history.since e.t (last_time history.past) history.in_time
+
 pub follows_where : (rows : Rows) (e : Event) (history : HasHistory rows) → accepts history.past e ≡ true → CanFollow rows e
 follows_where rows e history k =
     record {

@@ -1,9 +1,10 @@
 // What may happen next.
-ghost use Rattle.std.specs.Prelude.{◌≡◌, ◌≤◌, ℕ, List, IfOk, max};
+ghost use Rattle.std.specs.Prelude.{◌≡◌, ◌≤◌, ℕ, List, IfOk, max, true};
 ghost use Rattle.ws_model.specs.declared.event.Event.{Event};
 ghost use Rattle.ws_model.specs.Legal.{Legal, accepts};
 ghost use Rattle.ws_model.specs.Moment.{last_time};
-ghost use Rattle.ws_core.specs.Stands.{StandsFor};
+ghost use Rattle.ws_core.specs.Follows.{HasHistory};
+ghost use Rattle.ws_core.specs.Stands.{CanFollow, StandsFor};
 
 use crate::Core;
 use crate::sound::is_sound;
@@ -14,6 +15,7 @@ impl Core {
     /// fields, and by what the tables hold.
     pub fn accepts(&self, event: &Event) -> Result<bool, NoMemory>
         ensures stands { (h : List Event) (since : ℕ) → StandsFor h since self.now → Legal h → since ≤ max event.now.t (last_time h) → IfOk result (λ told. told ≡ accepts h event.now) }
+        ensures follows { HasHistory self.now → IfOk result (λ told. told ≡ true → CanFollow self.now event.now) }
     {
         Ok(self.tables.allows(event) && is_sound(self.alloc, event)?)
     }

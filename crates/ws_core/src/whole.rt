@@ -1,5 +1,6 @@
 // The tables, and what became of each pair.
 ghost use Rattle.std.specs.Prelude.{[]};
+ghost use Rattle.ws_core.specs.Follows.{HasHistory};
 ghost use Rattle.ws_core.specs.Stands.{StandsFor};
 
 use std::alloc::Global;
@@ -29,6 +30,7 @@ impl Core {
     /// The core of a hub to which nothing has happened. It takes no memory.
     pub fn empty(alloc: Global) -> Core
         ensures stands { StandsFor [] 0 result }
+        ensures history { HasHistory result }
     {
         Core {
             alloc,

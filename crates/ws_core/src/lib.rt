@@ -4,16 +4,13 @@
 
 mod accepting;
 mod asking;
-<<<<<<< HEAD
 mod births;
 mod confirmed;
 mod ends;
 mod fetched;
-mod pushed;
-=======
 pub mod laws;
 mod looking;
->>>>>>> 785d5dd350df4fff05d4634754fe0784c30b7015
+mod pushed;
 mod quiet;
 mod sound;
 mod steps;

@@ -1,10 +1,12 @@
 // The intents, the reasons and the versions that work goes by.
-ghost use Rattle.std.specs.Prelude.{◌≡◌, ◌≤◌, ◌==◌, ℕ, List, IfSome, Some, find, map};
+ghost use Rattle.std.specs.Prelude.{◌≡◌, ◌≤◌, ◌==◌, ℕ, List, IfSome, IsSome, Some, find, map, true};
+ghost use Rattle.std.specs.List.{list_any};
 ghost use Rattle.std.specs.Option.{option_copied, option_map};
 ghost use Rattle.ws_model.specs.declared.event.Event.{Event};
 ghost use Rattle.ws_model.specs.Intents.{notices};
 ghost use Rattle.ws_model.specs.Legal.{Legal};
 ghost use Rattle.ws_model.specs.Moment.{time};
+ghost use Rattle.ws_model.specs.Pairs.{owed};
 ghost use Rattle.ws_model.specs.Versions.{versions};
 ghost use Rattle.ws_model.specs.View.{owed_notice};
 ghost use Rattle.ws_core.specs.InUse.{intent_in_use};
@@ -32,9 +34,10 @@ impl Core {
         self.tables.reason(n)
     }
 
-    /// The version of a number, where the core keeps it. It takes no memory.
+    /// The version of a number, where the core holds it, as it does each owed one. It takes no memory.
     pub fn version(&self, ver: u64) -> Option<&Version>
         ensures stands { (h : List Event) (since : ℕ) → StandsFor h since self.now → IfSome (option_copied result) (λ v. find (λ w. w.ver == ver) (versions h) ≡ Some v) }
+        ensures owed { (h : List Event) (since t : ℕ) → StandsFor h since self.now → since ≤ t → list_any (λ p. p.version.ver == ver) (owed h t) ≡ true → IsSome result }
     {
         self.tables.version(ver)
     }

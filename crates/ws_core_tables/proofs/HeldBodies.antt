@@ -214,7 +214,7 @@ open_kept None r k s = absurd (false≢true s)
 open_kept (Some p) None k s = k
 open_kept (Some p) (Some v) k s = refl
 
-owed_held : (h : List Event) (since t : ℕ) (rows : Rows) → StandsFor h since rows → since ≤ t → (v : ℕ) → list_any (λ p. p.version.ver == v) (owed h t) ≡ true → is_some (number_at v rows.topics.versions) ≡ true
+pub owed_held : (h : List Event) (since t : ℕ) (rows : Rows) → StandsFor h since rows → since ≤ t → (v : ℕ) → list_any (λ p. p.version.ver == v) (owed h t) ≡ true → is_some (number_at v rows.topics.versions) ≡ true
 owed_held h since t rows s later v k =
     let r = owed_lease h v (owed h t) k in
     open_kept (pair_at v r.0 rows.deliveries) (number_at v rows.topics.versions) (s.kept v r.0)

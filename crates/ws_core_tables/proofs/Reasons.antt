@@ -1,6 +1,6 @@
 -- The intents and the reasons of owed notices, and the intents of live leases.
-use Rattle.std.proofs.Common.{◌≡◌, ℕ, ◌≤◌, ◌<◌, ◌^◌, Bool, true, ◌&&◌, List, [], ◌∷◌, refl, ap, sym, ◌∙◌, arith}
-use Rattle.std.specs.Prelude.{Option, Some, None, find, map, max, min, nat_le, nat_lt, ◌==◌}
+use Rattle.std.proofs.Common.{◌≡◌, ℕ, ◌<◌, ◌^◌, true, ◌&&◌, List, [], ◌∷◌, refl, ap, ◌∙◌, arith}
+use Rattle.std.specs.Prelude.{Option, Some, None, find, map, min, nat_le, nat_lt, ◌==◌}
 use Rattle.std.specs.Option.{option_map}
 use Rattle.std.proofs.lemmas.Bool.{and_parts, eqb-true, ltb-true}
 use Rattle.ws_model.specs.declared.event.Event.{Event}
@@ -8,7 +8,7 @@ use Rattle.ws_model.specs.declared.event.Intent.{Intent}
 use Rattle.ws_model.specs.declared.event.What.{What}
 use Rattle.ws_model.specs.declared.event.What.TheVariants.{Tally}
 use Rattle.ws_model.specs.Intents.{notices}
-use Rattle.ws_model.specs.Legal.{Legal, accepts, accepts_what, is_allowed, is_first_tally, is_in_order, is_sound, number_limit, time_limit}
+use Rattle.ws_model.specs.Legal.{Legal, accepts_what, is_allowed, is_first_tally, is_in_order, is_sound, number_limit, time_limit}
 use Rattle.ws_model.specs.Moment.{last_serial, last_time, time, time_in}
 use Rattle.ws_model.specs.View.{OwedNotice, owed_notice}
 use Rattle.ws_laws.proofs.ListLaws.{find-map}

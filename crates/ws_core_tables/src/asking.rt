@@ -1,5 +1,6 @@
 // What the tables hold, at a moment where it matters.
-ghost use Rattle.std.specs.Prelude.{◌≡◌, ◌≤◌, ◌<◌, ◌^◌, ◌==◌, ℕ, List, IfSome, Some, find, length, option_map};
+ghost use Rattle.std.specs.Prelude.{◌≡◌, ◌≤◌, ◌<◌, ◌^◌, ◌==◌, ℕ, List, IfSome, IsSome, Some, find, length, option_map, true};
+ghost use Rattle.std.specs.List.{list_any};
 ghost use Rattle.ws_model.specs.declared.event.Event.{Event};
 ghost use Rattle.std.specs.Option.{option_copied};
 ghost use Rattle.ws_model.specs.Answer.{has_live_lease, held_leases, pending_subscriptions};
@@ -106,9 +107,10 @@ impl Tables {
         self.deliveries.owed(t)
     }
 
-    /// The kept version of a number.
+    /// The version of a number, where it is held, as each owed one is.
     pub fn version(&self, ver: u64) -> Option<&Version>
         ensures stands { (h : List Event) (since : ℕ) → StandsFor h since self.now → IfSome (option_copied result) (λ v. find (λ w. w.ver == ver) (versions h) ≡ Some v) }
+        ensures owed { (h : List Event) (since t : ℕ) → StandsFor h since self.now → since ≤ t → list_any (λ p. p.version.ver == ver) (owed h t) ≡ true → IsSome result }
     {
         self.topics.version(ver)
     }

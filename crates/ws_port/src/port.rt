@@ -51,9 +51,6 @@ pub trait Port {
     /// Where nobody else uses the hub, no history that the port has seen is later than the last hub time.
     ghost timely: { sole ≡ true → (port : Self) (h : List Event) → seen port h → time h ≤ moment port };
 
-    /// It has seen some history.
-    ghost begun: { (port : Self) → (h : List Event) × seen port h };
-
     /// Commits what a request makes at the clock's value `now` (WebSub, sections 5.1 to 5.3 and 7): an
     /// intent, with its denial where the topic isn't allowed, or a ping of each topic that has a live lease.
     /// At an error nothing changes.
@@ -61,6 +58,7 @@ pub trait Port {
         requires sound { IsSound ask.now }
         ensures said { (h : List Event) → seen self.old h → Answered sole (seen self.new) (uses_time result) (moment self.new)
             (Said (λ g. answer g (moment self.new) ask.now (settings self.old).policy) result) h }
+        ensures begun { (h : List Event) × seen self.new h }
         ensures time { HubTime sole (uses_time result) now (moment self.old) (moment self.new) }
         ensures cause { IsDiskCause (faults self.old) (faults self.new) result }
         ensures unstored { stored ≡ false → IsUnstored result }
@@ -72,6 +70,7 @@ pub trait Port {
     fn revoke(&mut self, now: u64, topic: &Key, callback: &Key) -> Result<Told, DeskFault>
         ensures said { (h : List Event) → seen self.old h → Answered sole (seen self.new) (uses_time result) (moment self.new)
             (Said (λ g. revocation_answer g (moment self.new) topic.now callback.now) result) h }
+        ensures begun { (h : List Event) × seen self.new h }
         ensures time { HubTime sole (uses_time result) now (moment self.old) (moment self.new) }
         ensures cause { IsDiskCause (faults self.old) (faults self.new) result }
         ensures unstored { stored ≡ false → IsUnstored result }
@@ -81,6 +80,7 @@ pub trait Port {
     /// The account at the clock's value `now`. It takes no memory.
     fn account(&mut self, now: u64) -> Account
         ensures said { (h : List Event) → seen self.old h → Answered sole (seen self.new) true (moment self.new) (Accounts (moment self.new) result) h }
+        ensures begun { (h : List Event) × seen self.new h }
         ensures time { HubTime sole true now (moment self.old) (moment self.new) }
         ensures faults { faults self.new ≡ faults self.old }
         ensures settings { settings self.new ≡ settings self.old }

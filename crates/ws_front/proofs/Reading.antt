@@ -1,0 +1,150 @@
+-- The steps and the exits of reading piece by piece.
+use Rattle.std.proofs.Common.{◌≡◌, ◌≢◌, ℕ, ◌+◌, ◌-◌, ◌≤◌, ◌<◌, Bool, true, false, List, [], ◌∷◌, ◌++◌, length, take, refl, sym, ap, ◌∙◌, subst, append_assoc, append-nil, length-append, arith, Option, Some, None}
+use Rattle.std.specs.Prelude.{if◌then◌else◌}
+use Rattle.std.specs.Io.KnownBytes.{Consumes, IsAtEnd}
+use Rattle.ws_http.specs.declared.fed.Fed.{Fed}
+use Rattle.ws_http.specs.declared.fed.Fed.TheVariants.{More, Head}
+use Rattle.ws_http.specs.Requests.{Verdict, unfinished, headed, whole, bad, is_final, is_headed, said, IsRequest}
+use Rattle.ws_http.specs.RequestStages.{Reading, Feeds, verdict}
+use Rattle.ws_front.specs.Moves.{IsAll}
+use Rattle.ws_front.specs.Reading.{FeedsPiece, IsOpen, ReadsTo, ReadsOver}
+use Rattle.ws_front.proofs.Known.{Consumes-then, Consumes-none, Consumes-all}
+use Rattle.ws_front.proofs.Verdicts.{goes_on, is_short}
+
+-- Since the old reader all pieces were read, and the reader said nothing; `came` tells whether a byte came before or
+-- among them.
+pub record SoFar (old now : Reading) (left left' : Option (List ℕ)) (came : Bool) : Type 0 where
+  pub before : List ℕ
+  pub consumed : Consumes left left' before
+  pub bytes : now.bytes ≡ old.bytes ++ before
+  pub room : now.room ≡ 16384
+  pub same : verdict now ≡ verdict old
+  pub going_on : is_final (verdict old) ≡ false
+  pub judged : IsRequest 16384 (old.bytes ++ before) (verdict old)
+  pub none : came ≡ false → (before ≡ []) × (is_headed (verdict old) ≡ false)
+  pub some : came ≡ true → (if is_headed (verdict old) then 0 else 1) ≤ length before
+
+least_by : (b : Bool) → b ≡ true → (if b then 0 else 1) ≤ 0
+least_by true e = omega arith
+least_by false e = absurd (cc)
+
+least_one : (b : Bool) (n : ℕ) → 0 < n → (if b then 0 else 1) ≤ n
+least_one true n h = omega arith
+least_one false n h = omega arith
+
+-- a whole head is said only once
+said_head : (n : ℕ) (v w o : Verdict) → v ≡ o → Head ≡ said n v w → is_headed o ≡ false
+said_head n unfinished headed o e d = sym (ap is_headed e)
+said_head n headed headed o e d = absurd (cc)
+said_head n (whole k body) headed o e d = absurd (cc)
+said_head n (bad reason sound) headed o e d = absurd (cc)
+said_head n v unfinished o e d = absurd (cc)
+said_head n v (whole k body) o e d = absurd (cc)
+said_head n v (bad reason sound) o e d = absurd (cc)
+
+at_end : (a b : Option (List ℕ)) (bytes : List ℕ) → bytes ≡ [] → Consumes a b bytes → IsAtEnd b → IsAtEnd a
+at_end None b bytes e p end = tt
+at_end (Some xs) None bytes e p end = absurd p
+at_end (Some xs) (Some ys) bytes e p end = p ∙ (λ i. e i ++ end i)
+
+pub started : (old : Reading) (left : Option (List ℕ)) (came : Bool) → IsOpen old → came ≡ is_headed (verdict old) → SoFar old old left left came
+started old left came o e = record {
+  before = [];
+  consumed = Consumes-none left left refl;
+  bytes = sym (append-nil old.bytes);
+  room = o.room;
+  same = refl;
+  going_on = o.going_on;
+  judged = subst (λ (t : List ℕ). IsRequest 16384 t (verdict old)) (sym (append-nil old.bytes)) o.judged;
+  none = λ f. (refl, sym e ∙ f);
+  some = λ t. least_by (is_headed (verdict old)) (sym e ∙ t);
+}
+
+module _ (old now : Reading) (left left' : Option (List ℕ)) (came : Bool) (s : SoFar old now left left' came) where
+  still : is_final (verdict now) ≡ false
+  still = ap is_final s.same ∙ s.going_on
+
+  here : IsRequest 16384 now.bytes (verdict now)
+  here =
+      subst (λ (t : List ℕ). IsRequest 16384 t (verdict now)) (sym s.bytes)
+      (subst (λ (v : Verdict). IsRequest 16384 (old.bytes ++ s.before) v) (sym s.same) s.judged)
+
+  module _ (new : Reading) (left'' : Option (List ℕ)) (fed : Fed) (f : FeedsPiece now new left' left'' fed) where
+    next : IsRequest 16384 (now.bytes ++ f.piece) (verdict new)
+    next = subst (λ (n : ℕ). IsRequest n (now.bytes ++ f.piece) (verdict new)) s.room (f.feeds.judged still)
+
+    joined : now.bytes ++ f.piece ≡ old.bytes ++ (s.before ++ f.piece)
+    joined = ap (λ (t : List ℕ). t ++ f.piece) s.bytes ∙ append_assoc old.bytes s.before f.piece
+
+    pub goes_on_with : fed ≡ More → SoFar old new left left'' true
+    goes_on_with e =
+        let same : verdict new ≡ verdict now =
+        goes_on now.bytes f.piece (length now.bytes) (verdict now) (verdict new) still here next (sym e ∙ f.feeds.answered still) in
+        let going : is_final (verdict new) ≡ false = ap is_final same ∙ still in
+        record {
+          before = s.before ++ f.piece;
+          consumed = Consumes-then left left' left'' s.before f.piece s.consumed f.consumed;
+          bytes = f.feeds.whole_kept going ∙ joined;
+          room = f.feeds.room ∙ s.room;
+          same = same ∙ s.same;
+          going_on = s.going_on;
+          judged =
+              subst (λ (t : List ℕ). IsRequest 16384 t (verdict old)) joined
+              (subst (λ (v : Verdict). IsRequest 16384 (now.bytes ++ f.piece) v) (same ∙ s.same) next);
+          none = λ t. absurd (cc);
+          some = λ t. least_one (is_headed (verdict old)) (length (s.before ++ f.piece)) (omega (arith, f.some, length-append s.before f.piece));
+        }
+
+    -- fewer bytes are left of the room
+    pub shrinks : fed ≡ More → 16385 - length new.bytes < 16385 - length now.bytes
+    shrinks e =
+        let same : verdict new ≡ verdict now =
+        goes_on now.bytes f.piece (length now.bytes) (verdict now) (verdict new) still here next (sym e ∙ f.feeds.answered still) in
+        let going : is_final (verdict new) ≡ false = ap is_final same ∙ still in
+        let kept : new.bytes ≡ now.bytes ++ f.piece = f.feeds.whole_kept going in
+        let short : length (now.bytes ++ f.piece) ≤ 16384 = is_short (now.bytes ++ f.piece) (verdict new) next going in
+        let longer : length new.bytes ≡ length (now.bytes ++ f.piece) = ap length kept in
+        omega (arith, f.some, length-append now.bytes f.piece)
+
+    head_first : fed ≡ Head → is_headed (verdict old) ≡ false
+    head_first e = said_head (length now.bytes) (verdict now) (verdict new) (verdict old) s.same (sym e ∙ f.feeds.answered still)
+
+    pub finds : fed ≢ More → ReadsTo old new left left'' fed
+    finds says = record {
+      before = s.before;
+      piece = f.piece;
+      consumed = Consumes-then left left' left'' s.before f.piece s.consumed f.consumed;
+      some = f.some;
+      short = f.short;
+      waited = s.judged;
+      judged = subst (λ (t : List ℕ). IsRequest 16384 t (verdict new)) joined next;
+      kept = f.feeds.kept still ∙ (λ i. take (s.room i) (joined i));
+      going_on = λ going. (
+        record { room = f.feeds.room ∙ s.room; going_on = going; judged = subst (λ (t : List ℕ). IsRequest 16384 t (verdict new)) (sym (f.feeds.whole_kept going)) next },
+        f.feeds.whole_kept going ∙ joined,
+      );
+      tells = f.tells;
+      says = says;
+      head = head_first;
+    }
+
+  module _ (left'' : Option (List ℕ)) (e : Consumes left' left'' []) where
+    read_all : Consumes left left'' s.before
+    read_all = subst (Consumes left left'') (append-nil s.before) (Consumes-then left left' left'' s.before [] s.consumed e)
+
+    pub cuts : came ≡ true → IsAtEnd left' → (r : ReadsOver old left left'' (if is_headed (verdict old) then 0 else 1)) × IsAll left r.before
+    cuts t end = (
+      record { before = s.before; consumed = read_all; waited = s.judged; some = s.some t },
+      Consumes-all left left' s.before s.consumed end,
+    )
+
+    pub fails : ReadsOver old left left'' 0
+    fails = record { before = s.before; consumed = read_all; waited = s.judged; some = omega arith }
+
+    pub finds_none : came ≡ false → IsAtEnd left' → Consumes left left'' [] × IsAtEnd left × (is_headed (verdict old) ≡ false)
+    finds_none f end =
+        let none = s.none f in (
+          subst (Consumes left left'') none.0 read_all,
+          at_end left left' s.before none.0 s.consumed end,
+          none.1,
+        )

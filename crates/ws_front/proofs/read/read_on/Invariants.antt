@@ -1,0 +1,12 @@
+use Rattle.std.proofs.Common.{◌-◌, ◌≤◌, length}
+use Rattle.ws_front.proofs.Reading.{SoFar}
+use Rattle.ws_front.proofs.read.read_on.Given as goal
+
+abbrev pub invariant-pieces : goal.invariant-pieces
+invariant-pieces g l = record {
+  so_far : SoFar l.fn.reader l.reader (g.S.Source.left l.fn.source) (g.S.Source.left l.source) l.came;
+  later : g.S.Source.faults l.fn.source ≤ g.S.Source.faults l.source;
+}
+
+abbrev pub decreases-pieces : goal.decreases-pieces
+decreases-pieces g l = 16385 - length l.reader.bytes

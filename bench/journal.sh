@@ -1,7 +1,7 @@
 #!/bin/bash
 # Measures the journal over files by bench_journal, in the folder TMPDIR or /tmp, which is to be on a disk.
 # First appends of 100-byte batches, against a loop in Python that for each writes as many bytes, calls
-# fdatasync, writes one byte and calls fdatasync again: in turn, five runs of each, the median of the
+# fdatasync, writes one byte and calls fdatasync again: in turn, 21 runs of 100 of each, the median of the
 # nanoseconds of one, and the loop's over ours (1 says as fast). Then the opening of a journal of 256 MiB,
 # in batches of 100 bytes and of 64 KiB, against sha256sum of its file: the least processor time of five
 # runs of each in turn (user and system, in seconds), and ours over sha256sum's (1 says as fast). Wants
@@ -11,7 +11,8 @@ top=$(cd "$(dirname "$0")/.." && pwd)
 room=$(mktemp -d)
 trap 'rm -r "$room"' EXIT
 
-appends=${APPENDS:-1000}
+appends=100
+rounds=21
 runs=5
 
 (cd "$top/crates/bench_journal" && rt run) > "$room/build.log" 2>&1 || { cat "$room/build.log"; exit 1; }
@@ -45,11 +46,11 @@ cost() {
   { time "$@" > "$into"; } 2>&1 | awk '{ print $1 + $2 }'
 }
 
-median() { sort -n | sed -n "$(( (runs + 1) / 2 ))p"; }
+median() { sort -n | sed -n "$(( (rounds + 1) / 2 ))p"; }
 
 least() { sort -g | head -1; }
 
-for _ in $(seq $runs); do
+for _ in $(seq $rounds); do
   rm -f a.journal b.journal
   "$ours" append "$appends" >> ours.times
   pairs >> pairs.times

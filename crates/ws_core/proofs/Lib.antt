@@ -1,5 +1,12 @@
 pub mod Acceptance
+pub mod Bearing
 pub mod Beginning
+pub mod Counted
+pub mod Closing
+pub mod Ending
 pub mod FateOf
 pub mod Following
 pub mod Going
+pub mod ByKind
+pub mod Lists
+pub mod OwedPairs

@@ -1,3 +1,5 @@
 pub mod Follows
+pub mod Pairs
 pub mod Rows
+pub mod Spent
 pub mod Stands

@@ -4,8 +4,11 @@
 
 mod accepting;
 mod asking;
+mod ends;
+mod pushed;
 mod quiet;
 mod sound;
+mod steps;
 mod whole;
 
 pub use whole::Core;

@@ -1,4 +1,6 @@
 pub mod Follows
 pub mod InUse
+pub mod Pairs
 pub mod Rows
+pub mod Spent
 pub mod Stands

@@ -60,7 +60,7 @@ made : (e : Event) (h : List Event) (l : Lease) → MakesLease e h l → is_on l
 made e h l m on = (λ j. lease_of (m.confirms j) (m.asked j)) ∙ ap (λ b. cond b (l ∷ []) []) on
 
 -- it wasn't confirmed before
-unconfirmed : (e : Event) (h : List Event) (l : Lease) → Legal (e ∷ h) → MakesLease e h l → is_on l.intent.mode ≡ true → has (is_confirmed l.intent.n) h ≡ false
+pub unconfirmed : (e : Event) (h : List Event) (l : Lease) → Legal (e ∷ h) → MakesLease e h l → is_on l.intent.mode ≡ true → has (is_confirmed l.intent.n) h ≡ false
 unconfirmed e h l g m on = (subst (AllByRecursion (IsFresh e h)) (made e h l m on) (new_fresh e.what e.serial e.t h (allowed h e g.1))).0.unconfirmed
 
 -- so it has no pairs yet

@@ -67,7 +67,7 @@ same_turned m n = grind (arith, nat_tests)
 -- ---- the pairs that are born
 
 -- of each owed pair, whether its lease is of the topic and the callback
-by_number :
+pub by_number :
     (h : List Event) (t : ℕ) (i : Intent) → Legal h → last_time h ≤ t
     → AllByRecursion (λ w. same_pair i w.lease.intent ≡ is_number (option_map (λ l. l.intent.n) (live_lease_of h t i.topic i.callback)) w.lease.intent.n) (pushes h t)
 by_number h t i l k =
@@ -81,7 +81,7 @@ abbrev pub of_found : ℕ → Option ℕ → List OwedPush → Option OwedPush
 of_found v None ws = None
 of_found v (Some m) ws = find (is_pair v m) ws
 
-taken_over : (v : ℕ) (i : Intent) (o : Option ℕ) (ws : List OwedPush) → AllByRecursion (λ w. same_pair i w.lease.intent ≡ is_number o w.lease.intent.n) ws
+pub taken_over : (v : ℕ) (i : Intent) (o : Option ℕ) (ws : List OwedPush) → AllByRecursion (λ w. same_pair i w.lease.intent ≡ is_number o w.lease.intent.n) ws
     → find (λ w. w.version.ver == v) (filter (λ w. same_pair i w.lease.intent) ws) ≡ of_found v o ws
 taken_over v i None ws a =
     find-filter (λ w. w.version.ver == v) (λ w. same_pair i w.lease.intent) ws
@@ -142,7 +142,7 @@ not_renewed exp t n v q (Some m) rows k e = by (m == q) refl
     by true f = sym (ap (λ z. carried exp t (pair_at v z rows)) (eqb-true m q f ∙ sym (eqb-true n q e)) ∙ ap (carried exp t) k)
     by false f = refl
 
-makes : (e : Event) (h : List Event) (l : Lease) → MakesLease e h l → is_on l.intent.mode ≡ true → new_pushes e.t e.what (confirmed_intent e.what h) (view h e.t) ≡ owed_afresh e.t (pushes h e.t) (l ∷ [])
+pub makes : (e : Event) (h : List Event) (l : Lease) → MakesLease e h l → is_on l.intent.mode ≡ true → new_pushes e.t e.what (confirmed_intent e.what h) (view h e.t) ≡ owed_afresh e.t (pushes h e.t) (l ∷ [])
 makes e h l m on =
     (λ j. new_pushes e.t (m.confirms j) (m.asked j) (view h e.t))
     ∙ ap (λ b. owed_afresh e.t (pushes h e.t) (cond b (l ∷ []) [])) on

@@ -19,7 +19,7 @@ use ws_model::{Cause, Event, Intent, Lease, Mode, NoMemory};
 
 impl Tables {
     /// The number of the live lease of a pending intent's topic and callback.
-    fn lease_of(&self, n: u64, t: u64) -> Option<u64>
+    pub(crate) fn lease_of(&self, n: u64, t: u64) -> Option<u64>
         requires { t < 2 ^ 48 }
         ensures stands { (h : List Event) (since : ℕ) (i : Intent) → StandsFor h since self.now → Legal h → since ≤ t → Some i ≡ pending_of h n →
             result ≡ option_map (λ l. l.intent.n) (live_lease_of h t i.topic i.callback) }

@@ -15,6 +15,7 @@ mod keeping;
 mod looking;
 mod numbers;
 mod tables;
+mod walking;
 
 pub use due::DueWork;
 pub use numbers::{Greatest, Numbers};

@@ -6,4 +6,5 @@ pub mod Agreeing
 pub mod Carrying
 pub mod Counting
 pub mod Owing
+pub mod OpenVersions
 pub mod OwedVersions

@@ -3,4 +3,5 @@ pub mod Indexed
 pub mod NextDue
 pub mod Stands
 pub mod Agrees
+pub mod OpenOf
 pub mod OwedVersions

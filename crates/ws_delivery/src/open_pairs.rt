@@ -2,17 +2,19 @@
 ghost use Rattle.std.specs.Prelude.{◌≡◌, ◌+◌, ◌<◌, ◌^◌, ℕ, [], None, Some, cond, ◌==◌, ◌&&◌, IsSome, IfSome, OnOk, OnErr, IsSomeAnd, IfOk, length, if◌then◌else◌};
 ghost use Rattle.std.specs.Map.{keys_of, remove_entry};
 ghost use Rattle.std.specs.BTreeMap.{insert_entry, is_at};
+ghost use Rattle.std.specs.List.{IsDistinct};
 ghost use Rattle.std.specs.List.Sorted.{IsStrictlySortedBy};
 ghost use Rattle.ws_delivery.specs.Indexed.{head_try};
+ghost use Rattle.ws_delivery.specs.OpenOf.{open_versions};
 ghost use Rattle.ws_delivery.specs.Table.{pair_order, pair_at, is_here, fresh, number_of, IsNextOpen};
 ghost use Rattle.ws_delivery.specs.NextDue.{IsNextDue};
 ghost use Rattle.ws_delivery.specs.OwedVersions.{is_owed_version};
 ghost use Rattle.std.specs.BTreeSet.{contains};
 ghost use Rattle.std.specs.Ordering.{nat_cmp};
 
-use crate::OpenPair;
 use crate::heads::{self, Pairs};
 use crate::owed_versions::owed_versions;
+use crate::{OpenOf, OpenPair};
 use std::alloc::Global;
 use std::collections::{BTreeMap, BTreeSet};
 use std::marker::Model;
@@ -84,6 +86,14 @@ impl OpenPairs {
         ensures { IsNextOpen ver lease self.now result }
     {
         heads::open_after(&self.pairs, lease, ver)
+    }
+
+    /// The versions of the open pairs of a lease, rising.
+    pub fn open_of(&self, lease: u64) -> OpenOf<'_>
+        ensures value { result ≡ open_versions lease self.now }
+        ensures distinct { IsDistinct (λ x y. x == y) result }
+    {
+        OpenOf::of(self.pairs.range((lease, 0)..), lease)
     }
 
     /// Opens a pair that is born at `t`, with the end of its lease. At an error all is as before.

@@ -2,18 +2,21 @@
 ghost use Rattle.std.specs.Prelude.{◌≡◌, ◌+◌, ◌<◌, ◌≤◌, ◌^◌, ℕ, [], None, Some, cond, ◌==◌, ◌&&◌, IsSome, IfSome, IfOk, OnOk, OnErr, IsSomeAnd, List, MatchOption, length, if◌then◌else◌};
 ghost use Rattle.std.specs.Option.{option_map};
 ghost use Rattle.std.specs.Map.{keys_of};
+ghost use Rattle.std.specs.List.{IsDistinct};
 ghost use Rattle.std.specs.List.Sorted.{IsStrictlySortedBy};
 ghost use Rattle.ws_delivery.specs.Table.{carried, pair_order, pair_at, is_here, owed_at, fresh, after_miss, fate_after_miss, fate_at, number_of, number_owed};
 ghost use Rattle.ws_model.specs.declared.event.Event.{Event};
 ghost use Rattle.ws_model.specs.Legal.{Legal};
 ghost use Rattle.ws_model.specs.Pairs.{owed};
 ghost use Rattle.ws_delivery.specs.NextDue.{IsNextDue};
+ghost use Rattle.ws_delivery.specs.OpenOf.{open_versions};
 ghost use Rattle.ws_delivery.specs.OwedVersions.{is_owed_version};
 ghost use Rattle.std.specs.BTreeSet.{contains};
 ghost use Rattle.std.specs.List.{list_any};
 ghost use Rattle.std.specs.Ordering.{nat_cmp};
 ghost use Rattle.ws_delivery.specs.Stands.{StandsFor};
 
+use crate::OpenOf;
 use crate::ends::{self, Ends};
 use crate::open_pairs::OpenPairs;
 use std::alloc::Global;
@@ -192,6 +195,14 @@ impl Deliveries {
         ensures ordered { IsStrictlySortedBy pair_order (keys_of self.now) }
     {
         self.pairs.len()
+    }
+
+    /// The versions of the open pairs of a lease, rising.
+    pub fn open_of(&self, lease: u64) -> OpenOf<'_>
+        ensures value { result ≡ open_versions lease self.now }
+        ensures distinct { IsDistinct (λ x y. x == y) result }
+    {
+        self.pairs.open_of(lease)
     }
 
     /// How many pairs are owed at `t`. It goes over the leases that have ended by then and whose pairs

@@ -1,3 +1,4 @@
 pub mod Keyed
 pub mod Passing
 pub mod Stepping
+pub mod SameRows

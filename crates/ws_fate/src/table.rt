@@ -1,9 +1,11 @@
 // The table of pairs with what became of them.
-ghost use Rattle.std.specs.Prelude.{◌≡◌, ◌∷◌, ◌≤◌, [], ℕ, None, Some, cond, OnOk, OnErr};
+ghost use Rattle.std.specs.Prelude.{◌≡◌, ◌∷◌, ◌≤◌, [], ℕ, None, Some, cond, length, OnOk, OnErr};
+ghost use Rattle.std.specs.List.Sorted.{IsStrictlySortedBy};
+ghost use Rattle.std.specs.Map.{keys_of};
 ghost use Rattle.ws_model.specs.declared.event.Event.{Event};
 ghost use Rattle.ws_model.specs.declared.event.What.TheVariants.{Tally as TallyOf};
 ghost use Rattle.ws_fate.specs.declared.totals.Standing.TheVariants.{Open};
-ghost use Rattle.ws_fate.specs.Rows.{is_here, standing_at};
+ghost use Rattle.ws_fate.specs.Rows.{is_here, pair_order, standing_at};
 ghost use Rattle.ws_fate.specs.Stands.{StandsFor};
 ghost use Rattle.ws_fate.specs.Totals.{none, of_tally, with_one};
 
@@ -57,6 +59,14 @@ impl Fates {
         ensures { result ≡ standing_at ver lease self.now }
     {
         self.by_pair.get(&(lease, ver)).copied()
+    }
+
+    /// How many pairs the table has. They are held by lease and version. It takes no memory.
+    pub fn count(&self) -> u64
+        ensures count { result ≡ length self.now.pairs }
+        ensures ordered { IsStrictlySortedBy pair_order (keys_of self.now.pairs) }
+    {
+        self.by_pair.len() as u64
     }
 
     /// How many pairs ended in each way. It takes no memory.

@@ -1,7 +1,7 @@
 -- Events that make pairs: new versions, and subscriptions that take over what is owed; and the end of a subscription.
 use Rattle.std.proofs.Common.{◌≡◌, ℕ, ◌≤◌, ◌<◌, ◌+◌, Bool, true, false, cond, ◌&&◌, ◌||◌, List, [], ◌∷◌, refl, ap, sym, ◌∙◌, subst, length, arith}
 use Rattle.std.specs.Prelude.{bytes_eq, is_some, nat_le, ◌==◌, Option, Some, None, IfSome, filter, find, map}
-use Rattle.std.specs.List.{AllByRecursion, IsDistinct, list_any}
+use Rattle.std.specs.List.{AllByRecursion, list_any}
 use Rattle.std.specs.Option.{option_map}
 use Rattle.std.proofs.lemmas.Bool.{and_parts, eqb-true, false≢true}
 use Rattle.std.proofs.lemmas.Bool.Decides.{nat_tests}
@@ -53,7 +53,7 @@ use Rattle.ws_core.specs.Rows.{Rows}
 use Rattle.ws_core.specs.Stands.{StandsFor, kept}
 use Rattle.ws_core.proofs.Closing.{AreClosed, goes_on_closing, listed_there}
 use Rattle.ws_core.proofs.Ending.{few_tries, goes_on_ending, number_listed}
-use Rattle.ws_core.proofs.OwedPairs.{apart_with, listed_lease, listed_with, still_owed, turned_cause}
+use Rattle.ws_core.proofs.OwedPairs.{listed_lease, listed_with, still_owed, turned_cause}
 
 -- ---- lists
 
@@ -199,12 +199,24 @@ unsubscribed_goes e h since n sent i o ends old new s l le kind is off meant apa
 moved_with : (n q : ℕ) (versions : List ℕ) → moved_to n (with_lease q versions) ≡ with_lease n versions
 moved_with n q versions = map-map (λ v. (v, q)) (λ p. (p.0, n)) versions
 
-pub apart_moved : (n : ℕ) (o : Option ℕ) (rows : DeliveryRows) → ((q : ℕ) → o ≡ Some q → IsDistinct (λ x y. x == y) (open_versions q rows)) → AreApart (moved_to n (open_pairs_of o rows))
-apart_moved n None rows d = tt
-apart_moved n (Some q) rows d = subst AreApart (sym (moved_with n q (open_versions q rows))) (apart_with n (open_versions q rows) (d q refl))
-
 itself : (n : ℕ) → (n == n) ≡ true
 itself n = grind (arith, nat_tests)
+
+-- pairs of one lease stay apart with another one
+apart_again : (n q : ℕ) (versions : List ℕ) → AreApart (with_lease q versions) → AreApart (with_lease n versions)
+apart_again n q [] a = tt
+apart_again n q (w ∷ versions) a = (
+  listed_with w n n versions ∙ ap (λ b. (n == n) && b) (ap (λ b. b && list_any (λ u. u == w) versions) (sym (itself q)) ∙ sym (listed_with w q q versions) ∙ a.0) ∙ never (n == n),
+  apart_again n q versions a.1,
+)
+  where
+    never : (b : Bool) → (b && false) ≡ false
+    never true = refl
+    never false = refl
+
+pub apart_moved : (n : ℕ) (o : Option ℕ) (rows : DeliveryRows) → AreApart (open_pairs_of o rows) → AreApart (moved_to n (open_pairs_of o rows))
+apart_moved n None rows a = tt
+apart_moved n (Some q) rows a = subst AreApart (sym (moved_with n q (open_versions q rows))) (apart_again n q (open_versions q rows) a)
 
 -- the versions that are open for the old lease are those that are owed to it
 versions_taken :

@@ -3,7 +3,7 @@ use Rattle.std.proofs.Common.{◌≡◌, ℕ, suc, ◌+◌, ◌≤◌, Bool, tru
 use Rattle.std.specs.Prelude.{nat_lt, nat_le, ◌==◌, Option, Some, None, IfSome, find}
 use Rattle.std.specs.List.{AllByRecursion, list_any}
 use Rattle.std.specs.Option.{option_map}
-use Rattle.std.proofs.lemmas.Bool.{and_parts, eqb-true}
+use Rattle.std.proofs.lemmas.Bool.{and_parts, eqb-true, false≢true}
 use Rattle.std.proofs.lemmas.Bool.Decides.{nat_tests}
 use Rattle.ws_model.specs.declared.event.Event.{Event}
 use Rattle.ws_model.specs.declared.event.How.{How}
@@ -158,9 +158,6 @@ missed_turn t v n code last x k f = by (v == x.version.ver) refl (n == x.lease.i
     at : Bool → Bool → Standing
     at a b = standing (fate_by (a && b && false) (cond (a && b && true) (suc x.tries) x.tries) None (cond (a && b && true) (t + delay (suc x.tries)) x.next))
 
-    listed : Bool → Bool → Bool → Bool
-    listed a b last = list_any (λ p. (p.0 == x.version.ver) && (p.1 == x.lease.intent.n)) (missed_ends last v n)
-
     none : (last : Bool) → ((v == x.version.ver) && (n == x.lease.intent.n)) ≡ false → Open ≡ cond (is_listed x.version.ver x.lease.intent.n (missed_ends last v n)) (Ended Spent) Open
     none true p = ap (λ b. cond (b || false) (Ended Spent) Open) (sym p)
     none false p = refl
@@ -180,7 +177,7 @@ missed_apart false v n = tt
 
 missed_there : (h : List Event) (t v n : ℕ) (last : Bool) → list_any (is_pair v n) (pushes h t) ≡ true → (w m : ℕ) → is_listed w m (missed_ends last v n) ≡ true → list_any (is_pair w m) (pushes h t) ≡ true
 missed_there h t v n true k w m q = one_there h t v n k w m q
-missed_there h t v n false k w m q = absurd (cc)
+missed_there h t v n false k w m q = absurd (false≢true q)
 
 pub missed_goes :
     (e : Event) (h : List Event) (since v n code : ℕ) (last : Bool) (old new : Rows) → StandsFor h since old → Legal (e ∷ h) → since ≤ e.t → e.what ≡ Pushed v n (Missed code)

@@ -7,6 +7,8 @@ pub mod Ending
 pub mod FateOf
 pub mod Following
 pub mod Going
-pub mod OwedPairs
 pub mod InTurn
 pub mod Needed
+pub mod ByKind
+pub mod Lists
+pub mod OwedPairs

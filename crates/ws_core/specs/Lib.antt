@@ -1,6 +1,6 @@
 pub mod Follows
-pub mod Pairs
 pub mod InUse
+pub mod Pairs
 pub mod Rows
 pub mod Spent
 pub mod Stands

@@ -1,12 +1,10 @@
 -- Lists of pairs, each of them a version and a lease (own).
-use Rattle.std.specs.Prelude.{◌≡◌, ℕ, zero, suc, Bool, true, false, not, cond, ◌&&◌, ◌+◌, List, [], ◌∷◌, ◌==◌, Option, Some, None, IfSome, map, length}
+use Rattle.std.specs.Prelude.{◌≡◌, ℕ, zero, suc, Bool, false, ◌&&◌, List, [], ◌∷◌, ◌==◌, Option, Some, None, map}
 use Rattle.std.specs.List.{list_any}
 use Rattle.ws_delivery.specs.OpenOf.{open_versions}
 use Rattle.ws_delivery.specs.Table.{Rows as DeliveryRows}
 use Rattle.ws_fate.specs.declared.totals.Standing.{Standing}
-use Rattle.ws_fate.specs.declared.totals.Standing.TheVariants.{Open}
 use Rattle.ws_fate.specs.declared.totals.Totals.{Totals}
-use Rattle.ws_fate.specs.Rows.{Rows as FateRows, standing_at}
 use Rattle.ws_fate.specs.Totals.{with_one}
 
 -- the pair of this version and this lease is one of these
@@ -39,24 +37,3 @@ open_pairs_of (Some n) rows = with_lease n (open_versions n rows)
 abbrev pub with_many : ℕ → Standing → Totals → Totals
 with_many zero how c = c
 with_many (suc k) how c = with_many k how (with_one how c)
-
--- of the listed pairs all but those that are left have ended so, and the others are as they were
-pub record AreEnded (how : Standing) (pairs left : List (ℕ × ℕ)) (old now : FateRows) : Type 0 where
-  pub look : (v n : ℕ) → standing_at v n now ≡ cond (is_listed v n pairs && not (is_listed v n left)) (Some how) (standing_at v n old)
-  pub within : (v n : ℕ) → is_listed v n left ≡ true → is_listed v n pairs ≡ true
-  pub apart : AreApart left
-  pub totals : with_many (length left) how now.totals ≡ with_many (length pairs) how old.totals
-
--- of the listed pairs all but those that are left were born, and the others are as they were
-pub record AreBorn (pairs left : List (ℕ × ℕ)) (old now : FateRows) : Type 0 where
-  pub look : (v n : ℕ) → standing_at v n now ≡ cond (is_listed v n pairs && not (is_listed v n left)) (Some Open) (standing_at v n old)
-  pub within : (v n : ℕ) → is_listed v n left ≡ true → is_listed v n pairs ≡ true
-  pub apart : AreApart left
-  pub totals : now.totals ≡ old.totals
-
--- of the listed pairs all but those that are left are taken out again, and the others are as they were
-pub record AreUnborn (pairs left : List (ℕ × ℕ)) (old now : FateRows) : Type 0 where
-  pub look : (v n : ℕ) → standing_at v n now ≡ cond (is_listed v n pairs && not (is_listed v n left)) None (standing_at v n old)
-  pub within : (v n : ℕ) → is_listed v n left ≡ true → is_listed v n pairs ≡ true
-  pub apart : AreApart left
-  pub totals : now.totals ≡ old.totals

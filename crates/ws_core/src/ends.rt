@@ -15,8 +15,8 @@ pub(crate) fn end_all(fates: &mut Fates, pairs: &[(u64, u64)], how: Standing)
     ensures look { (v n : ℕ) → standing_at v n fates.new ≡ cond (is_listed v n pairs.now) (Some how) (standing_at v n fates.old) }
     ensures totals { fates.new.totals ≡ with_many (length pairs.now) how fates.old.totals }
 {
-    for (ver, lease) in pairs.iter().copied() {
-        fates.end(ver, lease, how);
+    for pair in pairs {
+        fates.end(pair.0, pair.1, how);
     }
 }
 

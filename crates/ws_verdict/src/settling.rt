@@ -18,7 +18,6 @@ use ws_model::{Fate, NoMemory, Outcome, Settled, Work};
 /// challenge (WebSub, sections 5.3 and 7; the misses, the limits and the own link are own).
 ///
 /// `fate` is that at `t` of the pair of a push. It isn't looked at for other work.
-#[allow(clippy::too_many_arguments)]
 pub fn settle(
     alloc: Global,
     tables: &Tables,

@@ -1,6 +1,6 @@
 -- What is held, as answers to requests go by it.
 use Rattle.std.proofs.Common.{◌≡◌, ◌≤◌, ◌+◌, ℕ, Bool, true, false, cond, ◌||◌, List, [], ◌∷◌, refl, ap, sym, ◌∙◌, length, arith, Option, Some, None}
-use Rattle.std.specs.Prelude.{◌==◌, filter, bytes_eq, is_some}
+use Rattle.std.specs.Prelude.{◌==◌, filter, is_some}
 use Rattle.std.specs.List.{list_any, sum_by}
 use Rattle.std.specs.Map.{values_of}
 use Rattle.std.specs.Iterator.{YieldsFirst}

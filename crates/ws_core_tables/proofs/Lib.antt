@@ -7,3 +7,6 @@ pub mod Renewal
 pub mod NewLease
 pub mod Holding
 pub mod NewVersion
+pub mod HeldBodies
+pub mod LeaseCounts
+pub mod Together

@@ -1,6 +1,6 @@
 -- The lease that a confirmed subscription makes, and the pairs that go over to it.
 use Rattle.std.proofs.Common.{◌≡◌, ℕ, Bool, true, false, not, cond, ◌&&◌, ◌||◌, List, [], ◌∷◌, ◌++◌, refl, ap, sym, ◌∙◌, subst, arith}
-use Rattle.std.specs.Prelude.{nat_lt, nat_le, is_none, Option, Some, None, IfSome, find, ◌==◌}
+use Rattle.std.specs.Prelude.{nat_lt, nat_le, is_none, Option, Some, None, IfSome, IsSome, find, ◌==◌}
 use Rattle.std.specs.List.{AllByRecursion}
 use Rattle.std.specs.Option.{option_map}
 use Rattle.std.proofs.lemmas.Bool.{and_parts, eqb-true, false≢true}
@@ -8,6 +8,7 @@ use Rattle.std.proofs.lemmas.Bool.Decides.{nat_tests}
 use Rattle.std.proofs.lemmas.Option.{IfSome_then}
 use Rattle.ws_model.specs.declared.event.Event.{Event}
 use Rattle.ws_model.specs.declared.event.Intent.{Intent}
+use Rattle.ws_model.specs.declared.event.Version.{Version}
 use Rattle.ws_model.specs.declared.event.What.TheVariants.{Confirmed}
 use Rattle.ws_model.specs.declared.fate.Cause.{Cause}
 use Rattle.ws_model.specs.declared.fate.Cause.TheVariants.{Expired}
@@ -25,7 +26,8 @@ use Rattle.ws_laws.proofs.Step.{IsFresh, confirms, new_fresh}
 use Rattle.ws_lease.specs.Stands.{MakesLease}
 use Rattle.ws_delivery.specs.declared.open_pair.OpenPair.{OpenPair}
 use Rattle.ws_delivery.specs.Table.{Rows, carried, owed_at, pair_at, unexpired}
-use Rattle.ws_core_tables.specs.Stands.{IsOfHistory, is_number, renewed}
+use Rattle.ws_topic.specs.Rows.{number_at}
+use Rattle.ws_core_tables.specs.Stands.{AreKept, IsOfHistory, is_number, renewed}
 use Rattle.ws_core_tables.proofs.Confirmation.{confirmed_is}
 use Rattle.ws_core_tables.proofs.Onward.{of_history_on}
 
@@ -139,3 +141,23 @@ renewed_pairs e h l t o old new g m on f look v q = subst (λ z. IfSome z (IsOfH
     by true b c = tt
     by false true c = takes c o
     by false false c = IfSome_then (pair_at v q old) (f v q) (λ p k. of_history_on e h v q p g k)
+
+-- the versions of what goes over to it are kept, as they were for the old one
+pub renewed_kept :
+    (l : Lease) (t : ℕ) (o : Option ℕ) (old new : Rows)
+    → ((v q : ℕ) → pair_at v q new ≡ cond (is_number o q) None (cond (l.intent.n == q) (renewed (expiry l) t o v old) (pair_at v q old)))
+    → (vs : List (ℕ × Version)) → AreKept old vs → AreKept new vs
+renewed_kept l t o old new look vs k v q = subst (λ z. IfSome z (λ p. IsSome (number_at v vs))) (sym (look v q)) (by (is_number o q) (l.intent.n == q))
+  where
+    carries : (z : Option OpenPair) → IfSome z (λ p. IsSome (number_at v vs)) → IfSome (carried (expiry l) t z) (λ p. IsSome (number_at v vs))
+    carries None f = tt
+    carries (Some p) f = f
+
+    takes : (z : Option ℕ) → IfSome (renewed (expiry l) t z v old) (λ p. IsSome (number_at v vs))
+    takes None = tt
+    takes (Some n) = carries (pair_at v n old) (k v n)
+
+    by : (a b : Bool) → IfSome (cond a None (cond b (renewed (expiry l) t o v old) (pair_at v q old))) (λ p. IsSome (number_at v vs))
+    by true b = tt
+    by false true = takes o
+    by false false = k v q

@@ -45,7 +45,7 @@ use Rattle.ws_core_tables.specs.Births.{AreDistinct, IsBearer, born_for, is_amon
 use Rattle.ws_core_tables.specs.declared.numbers.Numbers.{Numbers}
 use Rattle.ws_core_tables.specs.Numbers.{with_event}
 use Rattle.ws_core_tables.specs.Rows.{Rows as Tables}
-use Rattle.ws_core_tables.specs.Stands.{GoesOn, IsOfHistory}
+use Rattle.ws_core_tables.specs.Stands.{AreKept, GoesOn, IsOfHistory}
 use Rattle.ws_core_tables.proofs.NewLease.{live_told}
 use Rattle.ws_core_tables.proofs.Onward.{leases_on, numbers_on, of_history_on}
 use Rattle.ws_core_tables.proofs.Renewal.{find_never, map_or, nothing_shown}
@@ -252,20 +252,48 @@ born_pairs e h since old new ls x numbers kind g leased k f look v n = subst (λ
     by true c = subst (λ o. IfSome (born_for e.t o) (IsOfHistory (e ∷ h) v n)) (sym (leased.shows e.t n k)) (born (and_parts (x.ver == v) (member n numbers) c).0 (find (is_numbered n) (live h e.t)) refl)
     by false c = IfSome_then (pair_at v n old) (f v n) (λ p q. of_history_on e h v n p g q)
 
+-- and their version is kept, as those of the others are
+born_kept :
+    (t : ℕ) (old new : Rows) (ls : LeaseRows) (x : Version) (numbers : List ℕ) (vs ws : List (ℕ × Version))
+    → ((v n : ℕ) → pair_at v n new ≡ cond (is_among x.ver numbers v n) (born_for t (live_at n t ls)) (pair_at v n old))
+    → ((q : ℕ) → number_at q ws ≡ cond (q == x.ver) (Some x) (number_at q vs))
+    → AreKept old vs → AreKept new ws
+born_kept t old new ls x numbers vs ws look has k v n = subst (λ o. IfSome o (λ p. IsSome (number_at v ws))) (sym (look v n)) (by (is_among x.ver numbers v n) refl)
+  where
+    turned : (a b : ℕ) → (a == b) ≡ true → (b == a) ≡ true
+    turned a b m = grind (arith, nat_tests)
+
+    stays : IsSome (number_at v vs) → IsSome (number_at v ws)
+    stays f = subst (λ o. IsSome o) (sym (has v)) (one (v == x.ver))
+      where
+        one : (b : Bool) → IsSome (cond b (Some x) (number_at v vs))
+        one true = refl
+        one false = f
+
+    born : IsSome (number_at v ws) → (o : Option Lease) → IfSome (born_for t o) (λ p. IsSome (number_at v ws))
+    born f None = tt
+    born f (Some l) = f
+
+    by : (b : Bool) → is_among x.ver numbers v n ≡ b → IfSome (cond b (born_for t (live_at n t ls)) (pair_at v n old)) (λ p. IsSome (number_at v ws))
+    by true c = born (subst (λ o. IsSome o) (sym (has v ∙ ap (λ b. cond b (Some x) (number_at v vs)) (turned x.ver v (and_parts (x.ver == v) (member n numbers) c).0))) refl) (live_at n t ls)
+    by false c = IfSome_then (pair_at v n old) (k v n) (λ p f. stays f)
+
 pub by_version :
     (e : Event) (old mid : Tables) (numbers : Numbers) (x : Version) → e.what ≡ Fetched x → numbers ≡ with_event e mid.numbers
     → mid.intents ≡ old.intents → mid.leases ≡ old.leases → mid.numbers ≡ old.numbers
     → ((h : List Event) (e : Event) → TopicsStand old.topics h → Legal (e ∷ h) → e.what ≡ Fetched x → TopicsStand mid.topics (e ∷ h))
+    → ((q : ℕ) → number_at q mid.topics.versions ≡ cond (q == x.ver) (Some x) (number_at q old.topics.versions))
     → ((h : List Event) (since : ℕ) → Legal h → LeasesStand h since old.leases → since ≤ e.t → AreNumbersOf (live_numbers x.topic e.t old.leases) (filter (λ l. bytes_eq l.intent.topic x.topic) (live h e.t)))
     → ((v n : ℕ) → pair_at v n mid.deliveries ≡ cond (is_among x.ver (live_numbers x.topic e.t old.leases) v n) (born_for e.t (live_at n e.t old.leases)) (pair_at v n old.deliveries))
     → GoesOn e old (record { intents = mid.intents; leases = mid.leases; topics = mid.topics; deliveries = mid.deliveries; numbers = numbers })
-by_version e old mid numbers x kind m i j n f among look h since s l k =
+by_version e old mid numbers x kind m i j n f has among look h since s l k =
     record {
       intents = subst (λ r. IntentsStand r (e ∷ h)) (sym i) (intents_stand_on old.intents h e s.intents (subst (λ (w : What). leaves_intents w ≡ true) (sym kind) refl));
       leases = subst (λ r. LeasesStand (e ∷ h) e.t r) (sym j) (leases_on e h since old.leases (subst (λ (w : What). touches_leases w ≡ false) (sym kind) refl) s.leases l k);
       topics = f h e s.topics l kind;
       deliveries = fetched_stands e h since old.deliveries mid.deliveries old.leases x (live_numbers x.topic e.t old.leases) kind l s.deliveries s.leases k (among h since l.0 s.leases k) (unpaired e h x old.deliveries l kind s.pairs) look;
       pairs = born_pairs e h since old.deliveries mid.deliveries old.leases x (live_numbers x.topic e.t old.leases) kind l s.leases k s.pairs look;
+      kept = born_kept e.t old.deliveries mid.deliveries old.leases x (live_numbers x.topic e.t old.leases) old.topics.versions mid.topics.versions look has s.kept;
       numbers = numbers_on e h old.numbers numbers s.numbers (m ∙ ap (with_event e) n);
     }
 

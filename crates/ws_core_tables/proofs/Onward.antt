@@ -6,6 +6,7 @@ use Rattle.std.proofs.lemmas.Option.{IfSome_then}
 use Rattle.ws_model.specs.declared.event.Event.{Event}
 use Rattle.ws_model.specs.declared.event.Tally.{Tally as TallyFields}
 use Rattle.ws_model.specs.declared.event.How.{How}
+use Rattle.ws_model.specs.declared.event.Version.{Version}
 use Rattle.ws_model.specs.declared.event.What.{What}
 use Rattle.ws_model.specs.declared.event.What.TheVariants.{Asked, Confirmed, Declined, Unheard, Barred, Noticed, Pinged, Fetched, Same, Unfetched, Pushed, Tally, Revoked}
 use Rattle.ws_model.specs.History.{has}
@@ -32,7 +33,7 @@ use Rattle.ws_delivery.proofs.Standing.{stands_on as deliveries_stand_on}
 use Rattle.ws_core_tables.specs.declared.numbers.Numbers.{Numbers}
 use Rattle.ws_core_tables.specs.Numbers.{numbers_of, with_event}
 use Rattle.ws_core_tables.specs.Rows.{Rows}
-use Rattle.ws_core_tables.specs.Stands.{GoesOn, IsOfHistory, StandsFor, is_of_intents, is_of_topics}
+use Rattle.ws_core_tables.specs.Stands.{AreKept, GoesOn, IsOfHistory, StandsFor, is_of_intents, is_of_topics}
 
 pub numbers_on : (e : Event) (h : List Event) (n m : Numbers) → n ≡ numbers_of h → m ≡ with_event e n → m ≡ numbers_of (e ∷ h)
 numbers_on e h n m k l = l ∙ ap (with_event e) k
@@ -85,6 +86,7 @@ by_intents e old intents numbers kind n f h since s l k =
       topics = topics_stand_on old.topics h e s.topics (intents_alone e.what kind).1;
       deliveries = deliveries_stand_on h e since old.deliveries l (intents_alone e.what kind).2 k s.deliveries;
       pairs = pairs_on e h old.deliveries l s.pairs;
+      kept = s.kept;
       numbers = numbers_on e h old.numbers numbers s.numbers n;
     }
 
@@ -105,16 +107,17 @@ topics_alone (Tally c) k = absurd (false≢true k)
 topics_alone (Revoked n reason) k = absurd (false≢true k)
 
 pub by_topics :
-    (e : Event) (old : Rows) (topics : TopicRows) (numbers : Numbers) → is_of_topics e.what ≡ true → numbers ≡ with_event e old.numbers
+    (e : Event) (old : Rows) (topics : TopicRows) (numbers : Numbers) → is_of_topics e.what ≡ true → numbers ≡ with_event e old.numbers → topics.versions ≡ old.topics.versions
     → ((h : List Event) → TopicsStand old.topics h → Legal (e ∷ h) → TopicsStand topics (e ∷ h))
     → GoesOn e old (record { intents = old.intents; leases = old.leases; topics = topics; deliveries = old.deliveries; numbers = numbers })
-by_topics e old topics numbers kind n f h since s l k =
+by_topics e old topics numbers kind n same f h since s l k =
     record {
       intents = intents_stand_on old.intents h e s.intents (topics_alone e.what kind).1;
       leases = leases_on e h since old.leases (topics_alone e.what kind).0 s.leases l k;
       topics = f h s.topics l;
       deliveries = deliveries_stand_on h e since old.deliveries l (topics_alone e.what kind).2 k s.deliveries;
       pairs = pairs_on e h old.deliveries l s.pairs;
+      kept = subst (AreKept old.deliveries) (sym same) s.kept;
       numbers = numbers_on e h old.numbers numbers s.numbers n;
     }
 
@@ -130,14 +133,16 @@ pub by_pushes :
     → ((h : List Event) (since : ℕ) → LeasesStand h since old.leases → Legal (e ∷ h) → since ≤ e.t → LeasesStand (e ∷ h) e.t leases)
     → ((h : List Event) (since : ℕ) → DeliveriesStand h since old.deliveries → Legal (e ∷ h) → since ≤ e.t → DeliveriesStand (e ∷ h) e.t deliveries)
     → ((h : List Event) → ((v n : ℕ) → IfSome (pair_at v n old.deliveries) (IsOfHistory h v n)) → (v n : ℕ) → IfSome (pair_at v n deliveries) (IsOfHistory h v n))
+    → ((vs : List (ℕ × Version)) → AreKept old.deliveries vs → AreKept deliveries vs)
     → GoesOn e old (record { intents = old.intents; leases = leases; topics = old.topics; deliveries = deliveries; numbers = numbers })
-by_pushes e old leases deliveries numbers v n how kind m f g p h since s l k =
+by_pushes e old leases deliveries numbers v n how kind m f g p q h since s l k =
     record {
       intents = intents_stand_on old.intents h e s.intents (subst (λ (w : What). leaves_intents w ≡ true) (sym kind) refl);
       leases = f h since s.leases l k;
       topics = topics_stand_on old.topics h e s.topics (subst (λ (w : What). leaves_topics w ≡ true) (sym kind) refl);
       deliveries = g h since s.deliveries l k;
       pairs = pairs_on e h deliveries l (p h s.pairs);
+      kept = q old.topics.versions s.kept;
       numbers = numbers_on e h old.numbers numbers s.numbers m;
     }
 
@@ -149,14 +154,16 @@ pub by_revocation :
     → ((h : List Event) (since : ℕ) → LeasesStand h since old.leases → Legal (e ∷ h) → since ≤ e.t → LeasesStand (e ∷ h) e.t leases)
     → ((h : List Event) (since : ℕ) → DeliveriesStand h since old.deliveries → Legal (e ∷ h) → since ≤ e.t → DeliveriesStand (e ∷ h) e.t deliveries)
     → ((h : List Event) → ((v n : ℕ) → IfSome (pair_at v n old.deliveries) (IsOfHistory h v n)) → (v n : ℕ) → IfSome (pair_at v n deliveries) (IsOfHistory h v n))
+    → ((vs : List (ℕ × Version)) → AreKept old.deliveries vs → AreKept deliveries vs)
     → GoesOn e old (record { intents = intents; leases = leases; topics = old.topics; deliveries = deliveries; numbers = numbers })
-by_revocation e old intents leases deliveries numbers n reason kind m i f g p h since s l k =
+by_revocation e old intents leases deliveries numbers n reason kind m i f g p q h since s l k =
     record {
       intents = i h since s.intents s.leases l k;
       leases = f h since s.leases l k;
       topics = topics_stand_on old.topics h e s.topics (subst (λ (w : What). leaves_topics w ≡ true) (sym kind) refl);
       deliveries = g h since s.deliveries l k;
       pairs = pairs_on e h deliveries l (p h s.pairs);
+      kept = q old.topics.versions s.kept;
       numbers = numbers_on e h old.numbers numbers s.numbers m;
     }
 
@@ -171,6 +178,7 @@ by_tally e old numbers c kind m h since s l k =
       topics = topics_stand_on old.topics h e s.topics (subst (λ (w : What). leaves_topics w ≡ true) (sym kind) refl);
       deliveries = deliveries_stand_on h e since old.deliveries l (subst (λ (w : What). is_quiet w ≡ true) (sym kind) refl) k s.deliveries;
       pairs = pairs_on e h old.deliveries l s.pairs;
+      kept = s.kept;
       numbers = numbers_on e h old.numbers numbers s.numbers m;
     }
 
@@ -183,13 +191,15 @@ pub by_confirmation :
     → ((h : List Event) (since : ℕ) → StandsFor h since old → Legal (e ∷ h) → since ≤ e.t → LeasesStand (e ∷ h) e.t leases)
     → ((h : List Event) (since : ℕ) → StandsFor h since old → Legal (e ∷ h) → since ≤ e.t → DeliveriesStand (e ∷ h) e.t deliveries)
     → ((h : List Event) (since : ℕ) → StandsFor h since old → Legal (e ∷ h) → since ≤ e.t → (v n : ℕ) → IfSome (pair_at v n deliveries) (IsOfHistory (e ∷ h) v n))
+    → ((vs : List (ℕ × Version)) → AreKept old.deliveries vs → AreKept deliveries vs)
     → GoesOn e old (record { intents = intents; leases = leases; topics = topics; deliveries = deliveries; numbers = numbers })
-by_confirmation e old intents leases topics deliveries numbers n sent kind m same i f g p h since s l k =
+by_confirmation e old intents leases topics deliveries numbers n sent kind m same i f g p q h since s l k =
     record {
       intents = i h s.intents l;
       leases = f h since s l k;
       topics = topics_stand_on topics h e (subst (λ (r : TopicRows). TopicsStand r h) (sym same) s.topics) (subst (λ (w : What). leaves_topics w ≡ true) (sym kind) refl);
       deliveries = g h since s l k;
       pairs = p h since s l k;
+      kept = subst (λ (r : TopicRows). AreKept deliveries r.versions) (sym same) (q old.topics.versions s.kept);
       numbers = numbers_on e h old.numbers numbers s.numbers m;
     }

@@ -8,6 +8,7 @@ use Rattle.ws_model.specs.declared.event.Event.{Event}
 use Rattle.ws_model.specs.declared.event.How.{How}
 use Rattle.ws_model.specs.declared.event.How.TheVariants.{Done, Gone, Missed}
 use Rattle.ws_model.specs.declared.event.Intent.{Intent}
+use Rattle.ws_model.specs.declared.event.Version.{Version}
 use Rattle.ws_model.specs.declared.event.What.TheVariants.{Pushed, Revoked}
 use Rattle.ws_model.specs.declared.fate.Cause.TheVariants.{Gone as LeaseGone, Revoked as LeaseRevoked}
 use Rattle.ws_model.specs.Fate.{delay}
@@ -22,6 +23,8 @@ use Rattle.ws_delivery.specs.declared.open_pair.OpenPair.{OpenPair}
 use Rattle.ws_delivery.specs.Table.{Rows, is_here, owed_at, pair_at, unexpired, after_miss as row_after_miss}
 use Rattle.ws_delivery.specs.Stands.{StandsFor, is_pair, shown, shown_of}
 use Rattle.ws_delivery.proofs.Standing.{find_where, owed_apart, stands_after, when}
+use Rattle.ws_topic.specs.Rows.{number_at}
+use Rattle.ws_core_tables.specs.Stands.{AreKept}
 use Rattle.ws_core_tables.proofs.Lookups.{owed_is}
 
 -- the owed pairs of a history as its view has them
@@ -110,6 +113,10 @@ closed_pairs P old new c look f v n = subst (λ o. IfSome o (P v n)) (sym (look 
     by true k = tt
     by false k = k
 
+-- and its version is kept still
+pub closed_kept : (old new : Rows) (c : ℕ → ℕ → Bool) → ((v n : ℕ) → pair_at v n new ≡ cond (c v n) None (pair_at v n old)) → (vs : List (ℕ × Version)) → AreKept old vs → AreKept new vs
+closed_kept old new c look vs = closed_pairs (λ v n p. IsSome (number_at v vs)) old new c look
+
 -- ---- a push that was answered
 
 done_stays : (t v n : ℕ) (x : OwedPush) (o : Option Intent) → stays_owed (Pushed v n Done) o x ≡ not ((n == x.lease.intent.n) && (v == x.version.ver))
@@ -192,7 +199,7 @@ unexpired_miss t false x k = rw k refl
 pub pushed_owed : (e : Event) (h : List Event) (since : ℕ) (rows : Rows) (v n : ℕ) (how : How) → e.what ≡ Pushed v n how → Legal (e ∷ h) → StandsFor h since rows → since ≤ e.t → is_some (owed_at e.t v n rows) ≡ true
 pushed_owed e h since rows v n how kind l s k = owed_is h since e.t v n rows s k ∙ subst (λ w. is_allowed w e.t h ≡ true) kind (allowed h e l.1)
 
-owed_open : (t : ℕ) (o : Option OpenPair) → is_some (unexpired t o) ≡ true → IsSome o
+pub owed_open : (t : ℕ) (o : Option OpenPair) → is_some (unexpired t o) ≡ true → IsSome o
 owed_open t None k = k
 owed_open t (Some p) k = refl
 
@@ -265,6 +272,12 @@ missed_pairs P t v n old new g look f w m = of (pair_at v n old) refl look
         by : (b : Bool) → is_here v n w m ≡ b → IfSome (cond b (row_after_miss t p) (pair_at w m old)) (P w m)
         by true c = let q = here_is v n w m c in after (nat_le 7 p.tries) (subst (λ o. IfSome o (P w m)) (ap (λ z. pair_at z m old) (sym q.0) ∙ ap (λ z. pair_at v z old) (sym q.1) ∙ r) (f w m))
         by false c = f w m
+
+-- and its version is kept still
+pub missed_kept : (t v n : ℕ) (old new : Rows)
+    → IsSomeAnd (pair_at v n old) (λ p. (w m : ℕ) → pair_at w m new ≡ cond (is_here v n w m) (row_after_miss t p) (pair_at w m old))
+    → (vs : List (ℕ × Version)) → AreKept old vs → AreKept new vs
+missed_kept t v n old new look vs = missed_pairs (λ v n p. IsSome (number_at v vs)) t v n old new (λ w m tries next p o. o) look
 
 -- ---- leases that are ended
 

@@ -1,8 +1,9 @@
 -- For which history the tables stand (own).
-use Rattle.std.specs.Prelude.{◌≡◌, ℕ, ◌≤◌, Bool, true, false, List, [], ◌∷◌, Option, Some, None, IfSome, find, ◌==◌}
+use Rattle.std.specs.Prelude.{◌≡◌, ℕ, ◌≤◌, Bool, true, false, List, [], ◌∷◌, Option, Some, None, IfSome, IsSome, find, ◌==◌}
 use Rattle.ws_model.specs.declared.event.Event.{Event}
 use Rattle.ws_model.specs.declared.event.What.{What}
 use Rattle.ws_model.specs.declared.event.What.TheVariants.{Asked, Declined, Unheard, Barred, Noticed, Pinged, Same, Unfetched}
+use Rattle.ws_model.specs.declared.event.Version.{Version}
 use Rattle.ws_model.specs.declared.work.Work.{Work}
 use Rattle.ws_model.specs.declared.work.Work.TheVariants.{Verify, Notice, Fetch, Push}
 use Rattle.ws_model.specs.declared.lease.Lease.{Lease}
@@ -12,6 +13,7 @@ use Rattle.ws_model.specs.Legal.{Legal}
 use Rattle.ws_model.specs.Versions.{is_fetched}
 use Rattle.ws_intent.specs.Stands.{StandsFor as IntentsStand}
 use Rattle.ws_lease.specs.Stands.{StandsFor as LeasesStand}
+use Rattle.ws_topic.specs.Rows.{number_at}
 use Rattle.ws_topic.specs.Stands.{StandsFor as TopicsStand}
 use Rattle.ws_delivery.specs.declared.open_pair.OpenPair.{OpenPair}
 use Rattle.ws_delivery.specs.Table.{Rows as DeliveryRows, carried, pair_at}
@@ -28,14 +30,20 @@ pub record IsOfHistory (h : List Event) (v n : ℕ) (p : OpenPair) : Type 0 wher
   pub leased : find (λ l. l.intent.n == n) (leases h) ≡ Some lease
   pub end : p.exp ≡ expiry lease
 
+-- the version of each open pair is kept
+abbrev pub AreKept : DeliveryRows → List (ℕ × Version) → Type 0
+AreKept deliveries versions = (v n : ℕ) → IfSome (pair_at v n deliveries) (λ p. IsSome (number_at v versions))
+
 -- From the moment `since` on each table stands for the history, and the numbers are the history's. All
--- open pairs, also those whose leases have expired, are of its versions and leases.
+-- open pairs, also those whose leases have expired, are of its versions and leases, and their versions
+-- are kept.
 pub record StandsFor (h : List Event) (since : ℕ) (rows : Rows) : Type 0 where
   pub intents : IntentsStand rows.intents h
   pub leases : LeasesStand h since rows.leases
   pub topics : TopicsStand rows.topics h
   pub deliveries : DeliveriesStand h since rows.deliveries
   pub pairs : (v n : ℕ) → IfSome (pair_at v n rows.deliveries) (IsOfHistory h v n)
+  pub kept : AreKept rows.deliveries rows.topics.versions
   pub numbers : rows.numbers ≡ numbers_of h
 
 -- what stands for a history goes over to what stands for the history with the event

@@ -2,6 +2,7 @@
 ghost use Rattle.std.specs.Prelude.{◌≡◌, OnOk, OnErr, true};
 ghost use Rattle.ws_model.specs.declared.event.What.TheVariants.{Asked, Barred, Pinged, Same, Unfetched, Tally as TallyOf};
 ghost use Rattle.ws_intent.specs.Stands.{IsSettling};
+ghost use Rattle.ws_core_tables.specs.Committing.{with_asked, with_pinged};
 ghost use Rattle.ws_core_tables.specs.Stands.{CanFollow, GoesOn, is_of_intents};
 
 use crate::Tables;
@@ -14,6 +15,7 @@ impl Tables {
         requires kind { event.now.what ≡ Asked intent.now }
         requires follows { CanFollow self.old event.now }
         ensures ok { OnOk result (GoesOn event.now self.old self.new) }
+        ensures rows { OnOk result (self.new ≡ with_asked event.now intent.now self.old) }
         ensures err { OnErr result (self.new ≡ self.old) }
     {
         self.intents.asked(intent.copy(self.alloc)?)?;
@@ -47,6 +49,7 @@ impl Tables {
     pub(crate) fn pinged(&mut self, event: &Event, topic: &Key) -> Result<(), NoMemory>
         requires kind { event.now.what ≡ Pinged topic.now }
         ensures ok { OnOk result (GoesOn event.now self.old self.new) }
+        ensures rows { OnOk result (self.new ≡ with_pinged event.now topic.now self.old) }
         ensures err { OnErr result (self.new ≡ self.old) }
     {
         self.topics.pinged(topic.as_slice(), event.serial)?;

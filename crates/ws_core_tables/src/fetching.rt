@@ -1,11 +1,12 @@
 // What happened, applied to the tables: new versions.
-ghost use Rattle.std.specs.Prelude.{◌≡◌, ◌≤◌, ◌∷◌, ℕ, List, filter, bytes_eq, OnOk, OnErr, cond, false};
+ghost use Rattle.std.specs.Prelude.{◌≡◌, ◌≤◌, ◌∷◌, ℕ, List, filter, bytes_eq, OnOk, OnErr, Some, cond, false, ◌==◌};
 ghost use Rattle.ws_model.specs.declared.event.Event.{Event};
 ghost use Rattle.ws_model.specs.declared.event.What.TheVariants.{Fetched};
 ghost use Rattle.ws_model.specs.Legal.{Legal};
 ghost use Rattle.ws_model.specs.Leases.{live};
 ghost use Rattle.ws_lease.specs.Stands.{StandsFor as LeasesStand, AreNumbersOf};
 ghost use Rattle.ws_lease.specs.Table.{live_at, live_numbers};
+ghost use Rattle.ws_topic.specs.Rows.{number_at};
 ghost use Rattle.ws_topic.specs.Stands.{StandsFor as TopicsStand};
 ghost use Rattle.ws_delivery.specs.Table.{pair_at};
 ghost use Rattle.ws_core_tables.specs.Births.{born_for, is_among};
@@ -44,6 +45,7 @@ impl Tables {
         requires kind { event.now.what ≡ Fetched version.now }
         requires follows { CanFollow self.old event.now }
         ensures topics { OnOk result ((h : List Event) (e : Event) → TopicsStand self.old.topics h → Legal (e ∷ h) → e.what ≡ Fetched version.now → TopicsStand self.new.topics (e ∷ h)) }
+        ensures versions { OnOk result ((q : ℕ) → number_at q self.new.topics.versions ≡ cond (q == version.now.ver) (Some version.now) (number_at q self.old.topics.versions)) }
         ensures kept { OnErr result (self.new.topics ≡ self.old.topics) }
         ensures numbered { OnOk result ((h : List Event) (since : ℕ) → Legal h → LeasesStand h since self.old.leases → since ≤ event.now.t →
             AreNumbersOf (live_numbers version.now.topic event.now.t self.old.leases) (filter (λ l. bytes_eq l.intent.topic version.now.topic) (live h event.now.t))) }

@@ -7,10 +7,13 @@ mod apply;
 mod applying;
 mod asking;
 mod births;
+mod committing;
 mod confirming;
 mod due;
 mod ending;
 mod fetching;
+mod keeping;
+mod looking;
 mod numbers;
 mod tables;
 

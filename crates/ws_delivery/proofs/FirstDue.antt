@@ -7,7 +7,7 @@ use Rattle.std.proofs.lemmas.Bool.Decides.{nat_tests}
 use Rattle.ws_model.specs.declared.work.Work.{Work}
 use Rattle.ws_order.specs.declared.next_try.NextTry.{NextTry}
 use Rattle.ws_order.specs.NextTries.{before, same, has, is_ready, is_out_push, IsRising}
-use Rattle.ws_order.proofs.Rising.{same_is, not_back}
+use Rattle.ws_order.specs.NextTryOrder.{next_tries_order}
 use Rattle.ws_delivery.specs.declared.open_pair.OpenPair.{OpenPair}
 use Rattle.ws_delivery.specs.Table.{Rows, pair_at, unexpired}
 use Rattle.ws_delivery.specs.Indexed.{IsIndexed, head_try, is_it, try_of}
@@ -21,7 +21,7 @@ member_has P y [] a e = absurd (false≢true e)
 member_has P y (x ∷ xs) a e = one (same y x) refl e (member_has P y xs a.1)
   where
     one : (b : Bool) → same y x ≡ b → (b || has y xs) ≡ true → (has y xs ≡ true → P y) → P y
-    one true q e f = subst P (sym (same_is y x q)) a.0
+    one true q e f = subst P (sym (next_tries_order.is y x q)) a.0
     one false q e f = f e
 
 not_own : (x : NextTry) → before x x ≡ false
@@ -58,8 +58,8 @@ is_found p (z ∷ zs) x s e = one (p z) refl e (is_found p zs x s.1)
         })
       where
         by : (y : NextTry) (b : Bool) → same y z ≡ b → (b || has y zs) ≡ true → before y z ≡ false
-        by y true q h = ap (λ w. before w z) (same_is y z q) ∙ not_own z
-        by y false q h = not_back z y (member_has (λ w. before z w ≡ true) y zs s.0 h)
+        by y true q h = ap (λ w. before w z) (next_tries_order.is y z q) ∙ not_own z
+        by y false q h = next_tries_order.not_back z y (member_has (λ w. before z w ≡ true) y zs s.0 h)
 
     one : (b : Bool) → p z ≡ b → cond b (Some z) (find p zs) ≡ Some x → (find p zs ≡ Some x → IsFound p zs x) → IsFound p (z ∷ zs) x
     one true q e f = let k : z ≡ x = cc in here q k
@@ -72,7 +72,7 @@ is_found p (z ∷ zs) x s e = one (p z) refl e (is_found p zs x s.1)
         }
       where
         by : (y : NextTry) (b : Bool) → same y z ≡ b → (b || has y zs) ≡ true → p y ≡ true → (has y zs ≡ true → p y ≡ true → before y x ≡ false) → before y x ≡ false
-        by y true k h g l = absurd (false≢true (sym q ∙ ap p (sym (same_is y z k)) ∙ g))
+        by y true k h g l = absurd (false≢true (sym q ∙ ap p (sym (next_tries_order.is y z k)) ∙ g))
         by y false k h g l = l h g
 
 pub none_found : (p : NextTry → Bool) (xs : List NextTry) (y : NextTry) → find p xs ≡ None → has y xs ≡ true → p y ≡ false
@@ -81,7 +81,7 @@ none_found p (z ∷ zs) y e h = one (p z) refl e (same y z) refl h (none_found p
   where
     one : (b : Bool) → p z ≡ b → cond b (Some z) (find p zs) ≡ None → (c : Bool) → same y z ≡ c → (c || has y zs) ≡ true → (find p zs ≡ None → has y zs ≡ true → p y ≡ false) → p y ≡ false
     one true q e c k h f = absurd (cc)
-    one false q e true k h f = ap p (same_is y z k) ∙ q
+    one false q e true k h f = ap p (next_tries_order.is y z k) ∙ q
     one false q e false k h f = f e h
 
 -- ---- due pushes and the first pairs of leases
@@ -135,7 +135,7 @@ ready_head t out rows heads v n i d =
 
 it_is : (x : NextTry) (o : Option NextTry) → is_it x o ≡ true → o ≡ Some x
 it_is x None e = absurd (false≢true e)
-it_is x (Some y) e = ap (λ z. Some z) (sym (same_is x y e))
+it_is x (Some y) e = ap (λ z. Some z) (sym (next_tries_order.is x y e))
 
 pub record ReadyParts (t : ℕ) (out : List Work) (x : NextTry) : Type 0 where
   pub come : nat_le x.at t ≡ true

@@ -8,7 +8,8 @@ use Rattle.std.proofs.lemmas.Bool.Decides.{nat_tests}
 use Rattle.ws_model.specs.Due.{place}
 use Rattle.ws_order.specs.declared.next_try.NextTry.{NextTry}
 use Rattle.ws_order.specs.NextTries.{before, same, has}
-use Rattle.ws_order.proofs.Rising.{same_is, same_turned}
+use Rattle.ws_order.specs.NextTryOrder.{next_tries_order}
+use Rattle.ws_order.proofs.Rising.{same_turned}
 use Rattle.ws_delivery.specs.declared.open_pair.OpenPair.{OpenPair}
 use Rattle.ws_delivery.specs.Table.{Rows, pair_order, pair_at, is_here}
 use Rattle.ws_delivery.specs.Indexed.{IsIndexed, head_try, is_it, try_of}
@@ -128,12 +129,12 @@ headed_after old new heads heads' ver lease x b i sorted look first follow y = f
   where
     by : (c : Bool) → (y.lease == lease) ≡ c → (is_it y (head_try lease new) || (has y heads && not (same b y))) ≡ is_it y (head_try y.lease new)
     by true e =
-        ap (λ z. is_it y (head_try lease new) || (z && not (same b y))) (i.headed y ∙ ap (λ m. is_it y (head_try m old)) (eq_lease y.lease lease e) ∙ ap (is_it y) first ∙ same_turned y b)
+        ap (λ z. is_it y (head_try lease new) || (z && not (same b y))) (i.headed y ∙ ap (λ m. is_it y (head_try m old)) (eq_lease y.lease lease e) ∙ ap (is_it y) first ∙ same_turned next_tries_order y b)
         ∙ taken_back (is_it y (head_try lease new)) (same b y)
         ∙ ap (λ m. is_it y (head_try m new)) (sym (eq_lease y.lease lease e))
     by false e =
         ap (λ z. z || (has y heads && not (same b y))) (not_it y lease (head_try lease new) e (head_lease lease new sorted))
-        ∙ ap (λ z. false || (has y heads && not z)) (same_turned b y ∙ not_it y lease (Some b) e (subst (λ o. IfSome o (λ z. z.lease ≡ lease)) first (head_lease lease old i.ordered)))
+        ∙ ap (λ z. false || (has y heads && not z)) (same_turned next_tries_order b y ∙ not_it y lease (Some b) e (subst (λ o. IfSome o (λ z. z.lease ≡ lease)) first (head_lease lease old i.ordered)))
         ∙ kept_on (has y heads)
         ∙ i.headed y
         ∙ ap (is_it y) (sym (same_head y.lease old new (ascends old i.ordered) (ascends new sorted) (other_lease old new ver lease x look y.lease e)))
@@ -142,7 +143,7 @@ headed_after old new heads heads' ver lease x b i sorted look first follow y = f
 pub head_is_new : (old : Rows) (heads : List NextTry) (lease : ℕ) (b : NextTry) (o : Option NextTry) → IsIndexed old heads → head_try lease old ≡ Some b → IfSome o (λ y. y.lease ≡ lease) → IfSome o (λ y. (has y heads && not (same b y)) ≡ false)
 head_is_new old heads lease b None i first f = tt
 head_is_new old heads lease b (Some y) i first f =
-    ap (λ z. z && not (same b y)) (i.headed y ∙ ap (λ m. is_it y (head_try m old)) f ∙ ap (is_it y) first ∙ same_turned y b) ∙ taken_back false (same b y)
+    ap (λ z. z && not (same b y)) (i.headed y ∙ ap (λ m. is_it y (head_try m old)) f ∙ ap (is_it y) first ∙ same_turned next_tries_order y b) ∙ taken_back false (same b y)
 
 pub head_is_there : (old : Rows) (heads : List NextTry) (lease : ℕ) (b : NextTry) → IsIndexed old heads → head_try lease old ≡ Some b → has b heads ≡ true
 head_is_there old heads lease b i first =
@@ -221,7 +222,7 @@ has_without b x (y ∷ ys) = one (same b y) refl (same x y) refl (has_without b 
     no_more false = refl
 
     one : (c : Bool) → same b y ≡ c → (d : Bool) → same x y ≡ d → has x (filter (λ y. not (same b y)) ys) ≡ (has x ys && not (same b x)) → has x (cond (not c) (y ∷ filter (λ y. not (same b y)) ys) (filter (λ y. not (same b y)) ys)) ≡ ((d || has x ys) && not (same b x))
-    one true p true q r = r ∙ ap (λ z. has x ys && not z) (ap (same b) (same_is x y q) ∙ p) ∙ no_more (has x ys) ∙ sym (ap (λ z. not z) (ap (same b) (same_is x y q) ∙ p))
+    one true p true q r = r ∙ ap (λ z. has x ys && not z) (ap (same b) (next_tries_order.is x y q) ∙ p) ∙ no_more (has x ys) ∙ sym (ap (λ z. not z) (ap (same b) (next_tries_order.is x y q) ∙ p))
     one true p false q r = r
-    one false p true q r = ap (λ z. z || has x (filter (λ y. not (same b y)) ys)) q ∙ sym (ap (λ z. not z) (ap (same b) (same_is x y q) ∙ p))
+    one false p true q r = ap (λ z. z || has x (filter (λ y. not (same b y)) ys)) q ∙ sym (ap (λ z. not z) (ap (same b) (next_tries_order.is x y q) ∙ p))
     one false p false q r = ap (λ z. z || has x (filter (λ y. not (same b y)) ys)) q ∙ r

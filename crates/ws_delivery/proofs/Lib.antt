@@ -6,3 +6,4 @@ pub mod Agreeing
 pub mod Carrying
 pub mod Counting
 pub mod Owing
+pub mod OwedVersions

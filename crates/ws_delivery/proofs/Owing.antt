@@ -23,17 +23,17 @@ use Rattle.ws_delivery.specs.Stands.{StandsFor, is_pair, shown, shown_of}
 use Rattle.ws_delivery.proofs.RowsByKey.{Ascends, ascends, look_at}
 use Rattle.ws_delivery.proofs.Counting.{total_order}
 
-abbrev same_key : ℕ × ℕ → ℕ × ℕ → Bool
+abbrev pub same_key : ℕ × ℕ → ℕ × ℕ → Bool
 same_key = eq_by_cmp pair_order
 
-abbrev is_owed_entry : ℕ → (ℕ × ℕ) × OpenPair → Bool
+abbrev pub is_owed_entry : ℕ → (ℕ × ℕ) × OpenPair → Bool
 is_owed_entry t e = nat_lt t e.1.exp
 
 -- the key of a pair
-abbrev key_of : Pair → ℕ × ℕ
+abbrev pub key_of : Pair → ℕ × ℕ
 key_of p = (p.lease.intent.n, p.version.ver)
 
-key_test : (n v m w : ℕ) → same_key (n, v) (m, w) ≡ ((n == m) && (v == w))
+pub key_test : (n v m w : ℕ) → same_key (n, v) (m, w) ≡ ((n == m) && (v == w))
 key_test n v m w = grind (arith, nat_tests)
 
 -- ---- the rows
@@ -73,7 +73,7 @@ none_here q [] a = refl
 none_here q (k ∷ ks) a = rw a.0 (none_here q ks a.1)
 
 -- a key of a row that is owed is that of an owed pair
-member_rows : (t n v : ℕ) (rows : Rows) → Ascends rows → list_any (same_key (n, v)) (map (λ e. e.0) (filter (is_owed_entry t) rows)) ≡ is_some (owed_at t v n rows)
+pub member_rows : (t n v : ℕ) (rows : Rows) → Ascends rows → list_any (same_key (n, v)) (map (λ e. e.0) (filter (is_owed_entry t) rows)) ≡ is_some (owed_at t v n rows)
 member_rows t n v [] a = refl
 member_rows t n v (e ∷ rows) a =
     one (same_key (n, v) e.0) refl (nat_lt t e.1.exp) refl (member_rows t n v rows a.1)
@@ -113,7 +113,7 @@ distinct_pairs (p ∷ ps) a =
     unlike : (p q : Pair) → same_numbers p q ≡ false → same_key (key_of p) (key_of q) ≡ false
     unlike p q k = turned p.lease.intent.n p.version.ver q.lease.intent.n q.version.ver k
 
-member_owed : (h : List Event) (n v : ℕ) (ps : List Pair) → is_some (shown_of v n (map (owed_push h) ps)) ≡ list_any (same_key (n, v)) (map key_of ps)
+pub member_owed : (h : List Event) (n v : ℕ) (ps : List Pair) → is_some (shown_of v n (map (owed_push h) ps)) ≡ list_any (same_key (n, v)) (map key_of ps)
 member_owed h n v [] = refl
 member_owed h n v (p ∷ ps) =
     one ((p.version.ver == v) && (p.lease.intent.n == n)) (member_owed h n v ps)

@@ -3,3 +3,4 @@ pub mod Indexed
 pub mod NextDue
 pub mod Stands
 pub mod Agrees
+pub mod OwedVersions

@@ -55,7 +55,7 @@ pub fn try_of(ver: u64, lease: u64, pair: &OpenPair) -> NextTry
 }
 
 /// Puts the new first try of a lease in the place of the old one.
-pub fn follow(heads: &mut Order, before: NextTry, after: Option<NextTry>)
+pub fn follow(heads: &mut Order<NextTry>, before: NextTry, after: Option<NextTry>)
     requires there { has before heads.old ≡ true }
     requires new { IfSome after (λ x. (has x heads.old && not (same before x)) ≡ false) }
     ensures { (x : NextTry) → has x heads.new ≡ (is_it x after || (has x heads.old && not (same before x))) }

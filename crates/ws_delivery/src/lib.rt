@@ -6,6 +6,7 @@ mod heads;
 mod laws;
 mod open_pair;
 mod open_pairs;
+mod owed_versions;
 mod table;
 
 pub use laws::{next_due_agrees, stands_after, stands_empty, stands_later, stands_on};

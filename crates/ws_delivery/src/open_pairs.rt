@@ -1,16 +1,20 @@
 // The open pairs with the order of their next tries.
-ghost use Rattle.std.specs.Prelude.{◌≡◌, ◌+◌, ◌<◌, ◌^◌, ℕ, [], None, Some, cond, ◌==◌, ◌&&◌, IsSome, IfSome, OnOk, OnErr, IsSomeAnd, length, if◌then◌else◌};
+ghost use Rattle.std.specs.Prelude.{◌≡◌, ◌+◌, ◌<◌, ◌^◌, ℕ, [], None, Some, cond, ◌==◌, ◌&&◌, IsSome, IfSome, OnOk, OnErr, IsSomeAnd, IfOk, length, if◌then◌else◌};
 ghost use Rattle.std.specs.Map.{keys_of, remove_entry};
 ghost use Rattle.std.specs.BTreeMap.{insert_entry, is_at};
 ghost use Rattle.std.specs.List.Sorted.{IsStrictlySortedBy};
 ghost use Rattle.ws_delivery.specs.Indexed.{head_try};
 ghost use Rattle.ws_delivery.specs.Table.{pair_order, pair_at, is_here, fresh, number_of, IsNextOpen};
 ghost use Rattle.ws_delivery.specs.NextDue.{IsNextDue};
+ghost use Rattle.ws_delivery.specs.OwedVersions.{is_owed_version};
+ghost use Rattle.std.specs.BTreeSet.{contains};
+ghost use Rattle.std.specs.Ordering.{nat_cmp};
 
 use crate::OpenPair;
 use crate::heads::{self, Pairs};
+use crate::owed_versions::owed_versions;
 use std::alloc::Global;
-use std::collections::BTreeMap;
+use std::collections::{BTreeMap, BTreeSet};
 use std::marker::Model;
 use ws_model::{Held, NoMemory};
 use ws_order::{NextTry, Order, Room};
@@ -21,7 +25,7 @@ use ws_order::{NextTry, Order, Room};
 pub struct OpenPairs {
     alloc: Global,
     pairs: Pairs,
-    heads: Order,
+    heads: Order<NextTry>,
 }
 
 impl Model for OpenPairs {
@@ -141,6 +145,13 @@ impl OpenPairs {
         let _ = self.pairs.remove(&(lease, ver));
         let after = heads::head_of(&self.pairs, lease);
         heads::follow(&mut self.heads, before, after);
+    }
+
+    /// The versions that are owed at `t` to some lease. It goes over all open pairs.
+    pub fn owed_versions(&self, alloc: Global, t: u64) -> Result<BTreeSet<u64>, NoMemory>
+        ensures { IfOk result (λ s. (v : ℕ) → contains nat_cmp s v ≡ is_owed_version t v self.now) }
+    {
+        owed_versions(alloc, &self.pairs, t)
     }
 
     /// The version and the lease of the push that is due first at `t`, but those whose tickets are out.

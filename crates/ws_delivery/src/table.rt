@@ -8,12 +8,16 @@ ghost use Rattle.ws_model.specs.declared.event.Event.{Event};
 ghost use Rattle.ws_model.specs.Legal.{Legal};
 ghost use Rattle.ws_model.specs.Pairs.{owed};
 ghost use Rattle.ws_delivery.specs.NextDue.{IsNextDue};
+ghost use Rattle.ws_delivery.specs.OwedVersions.{is_owed_version};
+ghost use Rattle.std.specs.BTreeSet.{contains};
+ghost use Rattle.std.specs.List.{list_any};
+ghost use Rattle.std.specs.Ordering.{nat_cmp};
 ghost use Rattle.ws_delivery.specs.Stands.{StandsFor};
 
 use crate::ends::{self, Ends};
 use crate::open_pairs::OpenPairs;
 use std::alloc::Global;
-use std::collections::BTreeMap;
+use std::collections::{BTreeMap, BTreeSet};
 use std::marker::Model;
 use ws_model::{Cause, Fate, Held, NoMemory};
 
@@ -197,6 +201,17 @@ impl Deliveries {
         ensures stands { (h : List Event) (since : ℕ) → Legal h → StandsFor h since self.now → since ≤ t → result ≡ length (owed h t) }
     {
         ends::number_after(&self.ends, self.pairs.len(), t)
+    }
+
+    /// The versions that are owed at `t` to some lease. It goes over all open pairs.
+    pub fn owed_versions(&self, alloc: Global, t: u64) -> Result<BTreeSet<u64>, NoMemory>
+        ensures versions { IfOk result (λ s. (v : ℕ) → contains nat_cmp s v ≡ is_owed_version t v self.now) }
+        ensures stands { IfOk result (λ s. (h : List Event) (since : ℕ) → Legal h → StandsFor h since self.now → since ≤ t →
+            (v : ℕ) → contains nat_cmp s v ≡ list_any (λ p. p.version.ver == v) (owed h t)) }
+    {
+        // How the pairs are held is known from their number.
+        let _ = self.pairs.len();
+        self.pairs.owed_versions(alloc, t)
     }
 
     /// The version and the lease of the push that is due first at `t`, but those whose tickets are out:

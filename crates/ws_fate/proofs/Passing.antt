@@ -35,7 +35,7 @@ none_any q [] a = refl
 none_any q (p ∷ ps) a = rw a.0 (none_any q ps a.1)
 
 -- where pairs differ in their numbers, one of these numbers passes a test exactly where the one that is found does
-any_found : (v n : ℕ) (q : Pair → Bool) (p : Pair) (ps : List Pair) → AreUnlike same_numbers ps → find (is_it v n) ps ≡ Some p → list_any (is_it v n) (filter q ps) ≡ q p
+pub any_found : (v n : ℕ) (q : Pair → Bool) (p : Pair) (ps : List Pair) → AreUnlike same_numbers ps → find (is_it v n) ps ≡ Some p → list_any (is_it v n) (filter q ps) ≡ q p
 any_found v n q p [] a e = absurd (grind arith)
 any_found v n q p (x ∷ xs) a e = one (is_it v n x) refl e (any_found v n q p xs a.1)
   where
@@ -88,7 +88,7 @@ shows_later h t u legal le v n = by (pair_of h v n) refl
     by None e = refl
     by (Some p) e = ap (λ s. Some s) (ap (λ b. later b (standing (fate h p t))) (any_found v n (λ q. is_owed (fate h q u)) p (pairs h) (pairs_apart h legal) e) ∙ later_at h p t u le)
 
-totals_later : (h : List Event) (t u : ℕ) → t ≤ u → with_expired (expiring (view h t) u) (of_account (account h t)) ≡ of_account (account h u)
+pub totals_later : (h : List Event) (t u : ℕ) → t ≤ u → with_expired (expiring (view h t) u) (of_account (account h t)) ≡ of_account (account h u)
 totals_later h t u le = λ i.
     record {
       answered = sym (unexpired_later is_answered (λ m n. refl) refl (λ c. c.answered) h t u le) i;

@@ -73,7 +73,7 @@ ended_stays_so t w o x (Owed m n) k = absurd (false≢true (sym k))
 ended_stays_so t w o x (HasEnded c) k = refl
 
 module _ (e : Event) (h : List Event) (legal : Legal (e ∷ h)) where
-  known_and_told : AllByRecursion (λ p. IsKnown h p × IsToldPair h p) (pairs h)
+  pub known_and_told : AllByRecursion (λ p. IsKnown h p × IsToldPair h p) (pairs h)
   known_and_told = both_true (IsKnown h) (IsToldPair h) (pairs h) (pairs_known h) (pairs_told h legal.0)
 
   pub stepped_at : (v n : ℕ) (p : Pair) → pair_of h v n ≡ Some p
@@ -101,7 +101,7 @@ module _ (e : Event) (h : List Event) (legal : Legal (e ∷ h)) where
   is_made : (v n : ℕ) → list_any (is_pair v n) (new_pushes e.t e.what (confirmed_intent e.what h) (view h e.t)) ≡ list_any (is_it v n) made
   is_made v n = ap (list_any (is_pair v n)) (sym (births_in e.what e.t (confirmed_intent e.what h) h)) ∙ any_made e.t v n made
 
-  shows_after : (v n : ℕ) → standing_after e.t e.what (confirmed_intent e.what h) (view h e.t) v n (option_map standing (fate_of h v n e.t)) ≡ option_map standing (fate_of (e ∷ h) v n e.t)
+  pub shows_after : (v n : ℕ) → standing_after e.t e.what (confirmed_intent e.what h) (view h e.t) v n (option_map standing (fate_of h v n e.t)) ≡ option_map standing (fate_of (e ∷ h) v n e.t)
   shows_after v n =
       ap (λ b. cond b (Some Open) (option_map (by_event e.t e.what (confirmed_intent e.what h) (find (is_pair v n) (view h e.t).owed)) (option_map standing (fate_of h v n e.t)))) (is_made v n)
       ∙ by (list_any (is_it v n) made) refl
@@ -120,7 +120,7 @@ module _ (e : Event) (h : List Event) (legal : Legal (e ∷ h)) where
           let r = not_made v n made (pairs h) k in
           there r (pair_of h v n) refl ∙ ap (λ o. option_map standing (option_map (λ p. fate (e ∷ h) p e.t) o)) (sym r)
 
-  totals_are : tallies_of e.what ≡ [] → totals_after e.t e.what (confirmed_intent e.what h) (view h e.t) (of_account (account h e.t)) ≡ of_account (account (e ∷ h) e.t)
+  pub totals_are : tallies_of e.what ≡ [] → totals_after e.t e.what (confirmed_intent e.what h) (view h e.t) (of_account (account h e.t)) ≡ of_account (account (e ∷ h) e.t)
   totals_are none = λ i.
       record {
         answered = sym (total_after is_answered (λ m n. refl) (λ c. c.answered) h e legal none) i;
@@ -192,17 +192,17 @@ owed_fate h p t k =
     λ i. fate_by (undone i) (misses h p) (alive i) (next h p)
 
 module _ (e : Event) (h : List Event) (legal : Legal (e ∷ h)) (quiet : is_quiet e.what ≡ true) where
-  quiet_fate : (p : Pair) → IsKnown h p × IsToldPair h p → fate (e ∷ h) p e.t ≡ fate h p e.t
+  pub quiet_fate : (p : Pair) → IsKnown h p × IsToldPair h p → fate (e ∷ h) p e.t ≡ fate h p e.t
   quiet_fate p known = by (is_owed (fate h p e.t)) refl
     where
       by : (b : Bool) → is_owed (fate h p e.t) ≡ b → fate (e ∷ h) p e.t ≡ fate h p e.t
       by true k = turned_at e h p (in_time h e legal.1) known.0 k ∙ quiet_turn e.what quiet e.t (confirmed_intent e.what h) (owed_push h p) ∙ sym (owed_fate h p e.t k)
       by false k = one_more e h p e.t e.t legal (itself e.t) (itself e.t) known.1 k
 
-  same_pairs : pairs (e ∷ h) ≡ pairs h
+  pub same_pairs : pairs (e ∷ h) ≡ pairs h
   same_pairs = ap (λ ps. ps ++ pairs h) (quiet_births e.what quiet e.t (confirmed_intent e.what h) (live h e.t) (owed h e.t))
 
-  quiet_shows : (v n : ℕ) → fate_of h v n e.t ≡ fate_of (e ∷ h) v n e.t
+  pub quiet_shows : (v n : ℕ) → fate_of h v n e.t ≡ fate_of (e ∷ h) v n e.t
   quiet_shows v n = by (pair_of h v n) refl ∙ sym (ap (λ ps. option_map (λ p. fate (e ∷ h) p e.t) (find (is_it v n) ps)) same_pairs)
     where
       by : (o : Option Pair) → pair_of h v n ≡ o → option_map (λ p. fate h p e.t) (pair_of h v n) ≡ option_map (λ p. fate (e ∷ h) p e.t) (pair_of h v n)
@@ -221,7 +221,7 @@ module _ (e : Event) (h : List Event) (legal : Legal (e ∷ h)) (quiet : is_quie
           (all_weaker (λ p. IsKnown h p × IsToldPair h p) (λ p. test (fate h p e.t) ≡ test (fate (e ∷ h) p e.t)) (λ p known. ap test (sym (quiet_fate p known))) (pairs h) (known_and_told e h legal))
           ∙ ap (filter (λ p. test (fate (e ∷ h) p e.t))) (sym same_pairs)
 
-  quiet_totals : of_account (account h e.t) ≡ of_account (account (e ∷ h) e.t)
+  pub quiet_totals : of_account (account h e.t) ≡ of_account (account (e ∷ h) e.t)
   quiet_totals = λ i.
       record {
         answered = quiet_total is_answered (λ c. c.answered) i;

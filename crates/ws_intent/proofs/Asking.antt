@@ -1,7 +1,7 @@
 -- What the rows answer is what the definitions say of the history that they stand for.
-use Rattle.std.proofs.Common.{◌≡◌, ℕ, suc, ◌+◌, Bool, true, false, cond, not, ◌&&◌, List, [], ◌∷◌, ◌++◌, length, refl, ap, sym, ◌∙◌, subst, arith}
-use Rattle.std.specs.Prelude.{Option, Some, None, find, filter, map, option_map, is_none, nat_lt, ◌==◌}
-use Rattle.std.specs.List.{AllByRecursion, list_any, sum_by}
+use Rattle.std.proofs.Common.{◌≡◌, ℕ, ◌+◌, Bool, true, false, cond, not, List, [], ◌∷◌, ◌++◌, length, refl, ap, sym, ◌∙◌, arith}
+use Rattle.std.specs.Prelude.{Option, Some, None, find, filter, map, option_map, ◌==◌}
+use Rattle.std.specs.List.{sum_by}
 use Rattle.std.specs.Map.{keys_of, values_of}
 use Rattle.std.proofs.lemmas.List.Sums.{sum_by-cons}
 use Rattle.ws_model.specs.declared.event.Event.{Event}
@@ -9,11 +9,11 @@ use Rattle.ws_model.specs.declared.event.Intent.{Intent}
 use Rattle.ws_model.specs.declared.work.Work.{Work}
 use Rattle.ws_model.specs.declared.work.Work.TheVariants.{Verify, Notice}
 use Rattle.ws_model.specs.Due.{by_number, due_notices, due_verifications, in_order, is_out}
-use Rattle.ws_model.specs.Intents.{asked, is_first, is_owed_notice, is_pending, notices, pending, same_pair}
+use Rattle.ws_model.specs.Intents.{asked, is_first, is_owed_notice, is_pending, notices, pending}
 use Rattle.ws_model.specs.Leases.{is_on}
 use Rattle.ws_model.specs.Legal.{Legal, is_first_one, pending_of}
 use Rattle.ws_model.specs.View.{OwedNotice, Waiting as PendingView, owed_notice, waiting}
-use Rattle.ws_laws.proofs.ListLaws.{all_filter, all_from, filter_same, find-map, map-map}
+use Rattle.ws_laws.proofs.ListLaws.{all_from, filter_same, find-map, map-map}
 use Rattle.ws_laws.proofs.Notices.{IsDescending, asked_descending}
 use Rattle.ws_intent.specs.declared.rows.Denial.{Denial}
 use Rattle.ws_intent.specs.declared.rows.Waiting.{Waiting}

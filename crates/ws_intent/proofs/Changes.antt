@@ -1,12 +1,11 @@
 -- What each change of the rows makes of the history that they stand for.
-use Rattle.std.proofs.Common.{◌≡◌, ℕ, suc, ◌≤◌, ◌<◌, Bool, true, false, cond, not, ◌&&◌, List, [], ◌∷◌, refl, ap, sym, ◌∙◌, subst, arith}
+use Rattle.std.proofs.Common.{◌≡◌, ℕ, Bool, true, false, cond, List, [], ◌∷◌, refl, ap, sym, ◌∙◌, subst}
 use Rattle.std.specs.List.Sorted.{IsStrictlySortedBy}
 use Rattle.std.specs.Map.{keys_of}
 use Rattle.std.specs.BTreeMap.{is_at}
 use Rattle.std.specs.Ordering.{nat_cmp}
 use Rattle.ws_intent.specs.Indexed.{IsKeyed}
-use Rattle.std.specs.Prelude.{Option, Some, None, IfSome, find, option_map, is_none, nat_lt, ◌==◌}
-use Rattle.std.specs.List.{AllByRecursion, list_any}
+use Rattle.std.specs.Prelude.{Option, Some, None, IfSome, find, option_map, is_none, ◌==◌}
 use Rattle.std.proofs.lemmas.Bool.{eqb-true, false≢true, ltb-true}
 use Rattle.ws_model.specs.declared.event.Event.{Event}
 use Rattle.ws_model.specs.declared.event.Intent.{Intent}
@@ -15,11 +14,11 @@ use Rattle.ws_model.specs.declared.event.What.{What}
 use Rattle.ws_model.specs.declared.event.What.TheVariants.{Asked, Confirmed, Declined, Unheard, Barred, Noticed, Revoked, Tally as TallyOf}
 use Rattle.ws_model.specs.declared.lease.Lease.{Lease}
 use Rattle.ws_model.specs.History.{has}
-use Rattle.ws_model.specs.Intents.{is_noticed, is_pending_number}
+use Rattle.ws_model.specs.Intents.{is_noticed}
 use Rattle.ws_model.specs.Leases.{lease_end, leases, live}
-use Rattle.ws_model.specs.Legal.{Legal, accepts, is_allowed, is_on_one, pending_of}
-use Rattle.ws_model.specs.Moment.{last_intent, last_time}
-use Rattle.ws_model.specs.View.{OwedNotice, Waiting as PendingView, waiting}
+use Rattle.ws_model.specs.Legal.{Legal, is_allowed, is_on_one}
+use Rattle.ws_model.specs.Moment.{last_intent}
+use Rattle.ws_model.specs.View.{Waiting as PendingView, waiting}
 use Rattle.ws_laws.proofs.Denied.{barred_undenied, not_noticed, pending_named, revoked_undenied}
 use Rattle.ws_laws.proofs.Known.{allowed, in_time}
 use Rattle.ws_laws.proofs.ListLaws.{all_filter, all_find}
@@ -31,7 +30,7 @@ use Rattle.ws_intent.specs.declared.rows.Denial.{Denial}
 use Rattle.ws_intent.specs.declared.rows.Waiting.{Waiting}
 use Rattle.ws_intent.specs.Rows.{Rows, denied_by, missed, missed_notice, number_at, without}
 use Rattle.ws_intent.specs.Stands.{IsSettling, LooksSettled, StandsFor, as_notice, as_pending, is_other}
-use Rattle.ws_intent.proofs.Standing.{IsAt, IsUntold, asked_notice, asked_row, asked_with, at_rows, barred_notice, barred_row, confirmed_row, declined_row, denied_view, event, from_rows, heard_notice, missed_as, missed_notice_as, missed_notice_view, missed_view, new_number, notice_row, number_is, others_stand, pending_row, revoked_notice, turned, unanswered_notice, unheard_row}
+use Rattle.ws_intent.proofs.Standing.{IsAt, IsUntold, asked_notice, asked_row, asked_with, at_rows, barred_notice, barred_row, confirmed_row, declined_row, denied_view, event, from_rows, heard_notice, missed_as, missed_notice_as, missed_notice_view, missed_view, new_number, notice_row, others_stand, pending_row, revoked_notice, turned, unanswered_notice, unheard_row}
 
 through : {X Y : Type 0} (f : X → Y) (b : Bool) (w o : Option X) → option_map f (cond b w o) ≡ cond b (option_map f w) (option_map f o)
 through f true w o = refl

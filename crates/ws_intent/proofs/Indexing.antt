@@ -1,18 +1,19 @@
 -- The rows and their indexes together, after a change.
-use Rattle.std.proofs.Common.{◌≡◌, ℕ, suc, ◌+◌, ◌≤◌, ◌<◌, Bool, true, false, cond, ◌&&◌, ◌||◌, not, List, [], ◌∷◌, ◌++◌, refl, ap, sym, ◌∙◌, subst, arith}
-use Rattle.std.specs.Prelude.{Option, Some, None, IfSome, IsSome, is_some, is_none, option_map, nat_le, ◌==◌, bytes_eq}
+use Rattle.std.proofs.Common.{◌≡◌, ℕ, ◌+◌, ◌<◌, Bool, true, false, cond, ◌&&◌, ◌||◌, not, List, refl, ap, sym, ◌∙◌, subst, arith}
+use Rattle.std.specs.Prelude.{Option, Some, None, IfSome, IsSome, is_some, is_none, option_map, nat_lt, ◌==◌, bytes_eq}
 use Rattle.std.specs.Option.{unwrap_or}
 use Rattle.std.specs.List.{sum_by}
 use Rattle.std.specs.List.Sorted.{IsStrictlySortedBy}
-use Rattle.std.specs.Map.{keys_of, lookup, remove_entry, set_value, values_of}
+use Rattle.std.specs.Map.{keys_of, remove_entry, set_value, values_of}
 use Rattle.std.specs.BTreeMap.{insert_entry, is_at}
 use Rattle.std.specs.Ordering.{nat_cmp}
 use Rattle.std.specs.Cmp.{nat_cmp_total}
 use Rattle.std.proofs.lemmas.Map.Entries.{sum_by-insert_entry, sum_by-remove_entry, sum_by-set_value}
 use Rattle.ws_model.specs.declared.event.Intent.{Intent}
 use Rattle.ws_intent.specs.declared.rows.Waiting.{Waiting}
+use Rattle.ws_model.specs.Due.{place}
 use Rattle.ws_intent.specs.Index.{IsLeast}
-use Rattle.ws_intent.specs.Indexed.{IsIndexed, IsKeyed, IsTracked, intent_at}
+use Rattle.ws_intent.specs.Indexed.{IsIndexed, intent_at}
 use Rattle.ws_intent.specs.Rising.{IsRising, has_number, is_it}
 use Rattle.ws_intent.specs.Rows.{after_miss, is_last, missed, missed_row, mode_weight, without, number_at, unheard_once, weight}
 use Rattle.std.proofs.lemmas.Bool.Decides.{nat_tests}
@@ -37,7 +38,7 @@ module _ (old new : Rows) (f g : List ℕ → List ℕ → ℕ → Bool) (xs ys 
     (rows : (q : ℕ) → number_at q new ≡ cond (is_at (nat_cmp i.n) q) (Some (record { intent = i; unheard = 0 })) (number_at q old))
     (ordered : IsStrictlySortedBy nat_cmp (keys_of new))
     (index : (a b : List ℕ) (q : ℕ) → g a b q ≡ cond (bytes_eq a i.topic && bytes_eq b i.callback && (q == i.n)) true (f a b q))
-    (first : IsLeast (f i.topic i.callback) o) (list : ys ≡ cond (is_none o) (xs ++ i.n ∷ []) xs)
+    (first : IsLeast (f i.topic i.callback) o) (list : ys ≡ cond (is_none o) (place nat_lt i.n xs) xs)
     (count : d ≡ c + mode_weight i.mode) where
   abbrev x : Waiting
   x = record { intent = i; unheard = 0 }

@@ -1,14 +1,14 @@
 -- Rows beside a history's intents in order: the same numbers, the same counts, the same first ones.
-use Rattle.std.proofs.Common.{◌≡◌, ℕ, suc, ◌+◌, ◌≤◌, ◌<◌, Bool, true, false, cond, not, ◌&&◌, ◌||◌, List, [], ◌∷◌, ◌++◌, length, refl, ap, sym, ◌∙◌, subst, arith}
-use Rattle.std.specs.Prelude.{Option, Some, None, IfSome, find, filter, map, option_map, is_none, nat_lt, ◌==◌}
+use Rattle.std.proofs.Common.{◌≡◌, ℕ, suc, ◌<◌, Bool, true, false, cond, not, ◌&&◌, ◌||◌, List, [], ◌∷◌, length, refl, ap, sym, ◌∙◌, subst, arith}
+use Rattle.std.specs.Prelude.{Option, Some, None, find, filter, map, option_map, is_none, nat_lt, ◌==◌}
 use Rattle.std.specs.List.{AllByRecursion, list_any}
 use Rattle.std.specs.Map.{keys_of}
 use Rattle.std.proofs.lemmas.Bool.Decides.{nat_tests}
-use Rattle.std.proofs.lemmas.Bool.{and_parts, eqb-true, false≢true, or_left, or_right, or_from}
+use Rattle.std.proofs.lemmas.Bool.{false≢true, or_left, or_right, or_from}
 use Rattle.ws_model.specs.declared.event.Intent.{Intent}
 use Rattle.ws_model.specs.Due.{by_number, in_order, place}
 use Rattle.ws_model.specs.Intents.{same_pair}
-use Rattle.ws_laws.proofs.ListLaws.{all_filter, all_from, all_weaker, any_then, filter_all, filter_same}
+use Rattle.ws_laws.proofs.ListLaws.{all_filter, all_from, all_weaker, any_then, filter_all}
 use Rattle.ws_laws.proofs.Notices.{IsDescending}
 use Rattle.ws_intent.specs.Indexed.{IsKeyed}
 use Rattle.ws_intent.specs.Rising.{IsRising, has_number}

@@ -1,20 +1,19 @@
 -- What stands at a number in the history, after one more event.
-use Rattle.std.proofs.Common.{◌≡◌, ℕ, suc, ◌≤◌, ◌<◌, Bool, true, false, cond, not, ◌&&◌, ◌||◌, List, [], ◌∷◌, refl, ap, sym, ◌∙◌, subst, arith}
+use Rattle.std.proofs.Common.{◌≡◌, ℕ, suc, ◌≤◌, ◌<◌, Bool, true, false, cond, not, ◌&&◌, ◌||◌, List, ◌∷◌, refl, ap, sym, ◌∙◌, subst, arith}
 use Rattle.std.specs.Prelude.{Option, Some, None, find, map, option_map, nat_lt, nat_le, ◌==◌}
-use Rattle.std.specs.List.{AllByRecursion, list_any}
 use Rattle.std.proofs.lemmas.Bool.Decides.{nat_tests}
-use Rattle.std.proofs.lemmas.Bool.{eqb-true, false≢true, false_from_ne_true, ltb-true}
+use Rattle.std.proofs.lemmas.Bool.{eqb-true, false≢true, false_from_ne_true}
 use Rattle.ws_model.specs.declared.event.Event.{Event}
 use Rattle.ws_model.specs.declared.event.Intent.{Intent}
 use Rattle.ws_model.specs.declared.event.What.{What}
 use Rattle.ws_model.specs.declared.event.What.TheVariants.{Asked, Confirmed, Declined, Unheard, Barred, Noticed, Revoked, Pinged, Fetched, Same, Unfetched, Pushed, Tally}
 use Rattle.ws_model.specs.History.{has, times}
 use Rattle.ws_model.specs.Intents.{asked, is_denied, is_noticed, is_owed_notice, is_owed_notice_number, is_pending_number, is_settled, is_unheard, notices, pending}
-use Rattle.ws_model.specs.Legal.{Legal, accepts}
+use Rattle.ws_model.specs.Legal.{Legal}
 use Rattle.ws_model.specs.Moment.{last_intent}
 use Rattle.ws_model.specs.View.{OwedNotice, Waiting as PendingView, owed_notice, reason_of, waiting}
 use Rattle.ws_laws.proofs.Denied.{new_undenied}
-use Rattle.ws_laws.proofs.Known.{about_le, allowed, is_about}
+use Rattle.ws_laws.proofs.Known.{about_le, is_about}
 use Rattle.ws_laws.proofs.ListLaws.{all_find, all_from, find-filter, find-map}
 use Rattle.ws_laws.proofs.Step.{find_pending, has_less, times_none}
 use Rattle.ws_intent.specs.declared.rows.Denial.{Denial}

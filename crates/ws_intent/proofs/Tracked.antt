@@ -5,11 +5,12 @@ use Rattle.std.specs.List.{AllByRecursion}
 use Rattle.std.proofs.lemmas.Bool.Decides.{nat_tests}
 use Rattle.std.proofs.lemmas.Bool.{or_left, or_right, or_cases, and_parts, eqb-true, false≢true, ltb-true}
 use Rattle.ws_model.specs.declared.event.Intent.{Intent}
+use Rattle.ws_model.specs.Due.{place}
 use Rattle.ws_intent.specs.Index.{IsLeast}
 use Rattle.ws_intent.specs.Rising.{IsRising, has_number, is_it}
 use Rattle.ws_intent.specs.Indexed.{IsFirst, IsTracked, is_of}
 use Rattle.ws_intent.proofs.Keyed.{bytes_itself, same}
-use Rattle.ws_intent.proofs.Rises.{itself, not_lt}
+use Rattle.ws_intent.proofs.Rises.{itself, not_lt, place_last}
 
 unlike : (a b : ℕ) → a < b → (a == b) ≡ false
 unlike a b k = grind (arith, nat_tests)
@@ -152,12 +153,12 @@ module _ (row new : ℕ → Option Intent) (f g : List ℕ → List ℕ → ℕ 
       let least : n ≤ m = s.least m (subst (λ (j : Intent). is_of j.topic j.callback (new m) ≡ true) it (ap (is_of i.topic i.callback) (new_there m (unlike m n lower)) ∙ there)) in
       absurd (omega arith)
 
-  pub tracked_added : (o : Option ℕ) (ys : List ℕ) → IsLeast (f i.topic i.callback) o → ys ≡ cond (is_none o) (xs ++ n ∷ []) xs → IsTracked new g ys
+  pub tracked_added : (o : Option ℕ) (ys : List ℕ) → IsLeast (f i.topic i.callback) o → ys ≡ cond (is_none o) (place nat_lt n xs) xs → IsTracked new g ys
   tracked_added None ys none e =
-      subst (IsTracked new g) (sym e)
+      subst (IsTracked new g) (sym (e ∙ place_last n xs below))
       (record {
         indexed = indexed_more;
-        rising = pushed_rising xs n tracked.rising (below_all (λ (x : ℕ). x < n) xs (λ q k. old_below q (tracked.least q k)));
+        rising = pushed_rising xs n tracked.rising below;
         listed = λ q s. by q s (q == n) refl;
         least = λ q k. elim (or_cases (has_number xs q) (n == q) (sym (pushed_has xs n q) ∙ k)) [
           | inl a ↦ old_first q (tracked.least q a)
@@ -165,6 +166,9 @@ module _ (row new : ℕ → Option Intent) (f g : List ℕ → List ℕ → ℕ 
         ];
       })
     where
+      below : AllByRecursion (λ (x : ℕ). x < n) xs
+      below = below_all (λ (x : ℕ). x < n) xs (λ q k. old_below q (tracked.least q k))
+
       by : (q : ℕ) → IsFirst new q → (c : Bool) → (q == n) ≡ c → has_number (xs ++ n ∷ []) q ≡ true
       by q s true c = pushed_has xs n q ∙ or_right (has_number xs q) (n == q) (turned n q ∙ c)
       by q s false c = pushed_has xs n q ∙ or_left (has_number xs q) (n == q) (tracked.listed q (first_again q c s))

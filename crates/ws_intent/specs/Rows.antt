@@ -1,5 +1,5 @@
 -- The rows of the table: numbers with what stands there, the numbers rising (own).
-use Rattle.std.specs.Prelude.{ℕ, suc, Bool, true, false, cond, not, ◌&&◌, ◌++◌, List, Option, Some, None, map, filter, find, option_map, nat_lt, nat_le, ◌==◌}
+use Rattle.std.specs.Prelude.{ℕ, suc, Bool, true, false, cond, not, ◌&&◌, ◌++◌, List, Option, Some, None, map, filter, find, option_map, nat_lt, nat_le}
 use Rattle.std.specs.List.{list_any}
 use Rattle.std.specs.Ordering.{nat_cmp}
 use Rattle.std.specs.Map.{lookup, remove_entry, set_value, keys_of}

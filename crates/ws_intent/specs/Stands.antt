@@ -1,10 +1,9 @@
 -- For which history the rows of the table stand (own).
-use Rattle.std.specs.Prelude.{◌≡◌, ℕ, Bool, true, false, List, ◌∷◌, cond, Option, None, map, find, option_map, ◌==◌}
+use Rattle.std.specs.Prelude.{◌≡◌, ℕ, Bool, true, false, List, ◌∷◌, cond, None, map, find, option_map, ◌==◌}
 use Rattle.ws_model.specs.declared.event.Event.{Event}
 use Rattle.ws_model.specs.declared.event.What.{What}
 use Rattle.ws_model.specs.declared.event.What.TheVariants.{Confirmed, Declined, Unheard, Noticed, Pinged, Fetched, Same, Unfetched, Pushed, Tally}
 use Rattle.ws_model.specs.Intents.{pending, notices}
-use Rattle.ws_model.specs.Legal.{Legal}
 use Rattle.ws_model.specs.View.{Waiting as PendingView, OwedNotice, waiting, owed_notice}
 use Rattle.ws_intent.specs.declared.kinds.Settle.{Settle}
 use Rattle.ws_intent.specs.declared.kinds.Settle.TheVariants.{Confirmed as IsConfirmed, Declined as IsDeclined, Unheard as IsUnheard, Noticed as IsNoticed}

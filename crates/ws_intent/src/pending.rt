@@ -1,24 +1,24 @@
-// The pending intents by number, with an index of their topics and callbacks and a list of the first ones.
+// The pending intents by number, with an index of their topics and callbacks and the first ones in order.
 ghost use Rattle.std.specs.Prelude.{◌≡◌, ◌≤◌, ◌<◌, ◌+◌, ◌&&◌, not, [], ℕ, List, OnOk, OnErr, IfOk, IsSome, MatchOption, Some, None, true, false, length, find, option_map, cond, ◌==◌, bytes_eq};
 ghost use Rattle.std.specs.Option.{option_copied};
 ghost use Rattle.std.specs.List.{sum_by};
 ghost use Rattle.std.specs.Map.{values_of};
 ghost use Rattle.std.specs.BTreeMap.{get, is_at, insert_entry, IsOrdered, IsUnchanged};
 ghost use Rattle.std.specs.Ordering.{nat_cmp};
-ghost use Rattle.ws_model.specs.Due.{is_out, same_work};
+ghost use Rattle.ws_model.specs.Due.{is_out};
 ghost use Rattle.ws_model.specs.declared.work.Work.TheVariants.{Verify};
 ghost use Rattle.ws_intent.specs.Index.{has_in};
 ghost use Rattle.ws_intent.specs.Indexed.{IsKeyed};
 ghost use Rattle.ws_intent.specs.Rows.{number_at, without, with_row, weight, mode_weight, is_first_number, first_numbers, is_last, missed, after_miss, intent_of};
 
-use crate::first;
+use crate::first::{self, Firsts};
 use crate::index::{self, PairIndex};
 use crate::rows::Waiting;
 use std::alloc::Global;
 use std::collections::BTreeMap;
 use std::collections::btree_map::Entry;
 use std::marker::Model;
-use ws_model::{Held, Intent, Mode, NoMemory, Work};
+use ws_model::{Held, Intent, Mode, NoMemory};
 
 /// The pending intents. Contracts see them as the list of the numbers with their intents, rising.
 #[derive(Drop)]
@@ -26,7 +26,7 @@ pub struct Pending {
     alloc: Global,
     by_number: BTreeMap<u64, Waiting>,
     by_pair: PairIndex,
-    firsts: Vec<u64>,
+    firsts: Firsts,
     subscriptions: u64,
 }
 
@@ -41,7 +41,7 @@ impl Model for Pending {
 
     ghost view = { λ s. s.by_number.entries };
 
-    ghost invariant = { λ s. IsIndexed s.by_number.entries (has_in s.by_pair) s.firsts.items s.subscriptions };
+    ghost invariant = { λ s. IsIndexed s.by_number.entries (has_in s.by_pair) s.firsts s.subscriptions };
 }
 
 impl Pending {
@@ -53,7 +53,7 @@ impl Pending {
             alloc,
             by_number: BTreeMap::new(alloc),
             by_pair: BTreeMap::new(alloc),
-            firsts: Vec::new(alloc),
+            firsts: Firsts::empty(),
             subscriptions: 0,
         }
     }
@@ -97,7 +97,7 @@ impl Pending {
         ensures first { result ≡ is_first_number n self.now }
         ensures keyed { IsKeyed (λ w. w.intent) self.now }
     {
-        first::is_in(&self.firsts, n)
+        self.firsts.contains(&n)
     }
 
     /// The first one whose verification isn't held.
@@ -105,7 +105,7 @@ impl Pending {
         ensures first { result ≡ find (λ n. not (is_out held.now (Verify n))) (first_numbers self.now) }
         ensures keyed { IsKeyed (λ w. w.intent) self.now }
     {
-        first_free(&self.firsts, held.as_slice())
+        first::first_free(&self.firsts, held)
     }
 
     /// Adds an intent whose number is above all others.
@@ -120,7 +120,7 @@ impl Pending {
         let topic = copied(self.alloc, intent.topic.as_slice())?;
         let callback = copied(self.alloc, intent.callback.as_slice())?;
         let earlier = index::first_of(&self.by_pair, &topic, &callback);
-        self.firsts.reserve(1)?;
+        let room = first::room_for(self.alloc, earlier)?;
         put_both(
             self.alloc,
             &mut self.by_number,
@@ -129,7 +129,7 @@ impl Pending {
             callback,
             intent,
         )?;
-        first::enter(&mut self.firsts, n, earlier);
+        first::enter(&mut self.firsts, n, room);
         self.subscriptions = subscriptions;
         Ok(())
     }
@@ -247,32 +247,5 @@ fn put_both(
             Ok(())
         }
         Entry::Occupied(_) => Ok(()),
-    }
-}
-
-// The first number whose verification isn't held.
-fn first_free(numbers: &[u64], held: &[Work]) -> Option<u64>
-    ensures { result ≡ find (λ n. not (is_out held.now (Verify n))) numbers.now }
-{
-    for n in numbers {
-        if !is_held(held, *n) {
-            return Some(*n);
-        }
-    }
-    None
-}
-
-fn is_held(held: &[Work], n: u64) -> bool
-    ensures { result ≡ is_out held.now (Verify n) }
-{
-    held.iter().any(|work| is_verify(work, n))
-}
-
-fn is_verify(work: &Work, n: u64) -> bool
-    ensures { result ≡ same_work (Verify n) work.now }
-{
-    match work {
-        Work::Verify { n: other } => n == *other,
-        _ => false,
     }
 }

@@ -12,8 +12,8 @@ use Rattle.ws_journal.specs.declared.store.Edition.TheVariants.{First, Second}
 use Rattle.ws_journal.specs.declared.store.OpenFault.{OpenFault}
 use Rattle.ws_journal.specs.declared.store.OpenFault.TheVariants as Opening
 use Rattle.ws_journal.specs.declared.store.Batch.{Batch}
-use Rattle.ws_journal.specs.Text.{digest_text, record_text, records, IsPayload}
-use Rattle.ws_journal.specs.Image.{Stand, digest_len, IsDamaged, IsAltered, IsWhole, IsKept}
+use Rattle.ws_journal.specs.Text.{digest_text, record_text, records, IsPayload, texts}
+use Rattle.ws_journal.specs.Image.{Stand, IsFound, digest_len, IsDamaged, IsAltered, IsWhole, IsKept}
 use Rattle.ws_journal.specs.Device.{kept_text, KeepsOne, KeepsDigest, IsNoBatch, StandsShort, StandsShut, StandsOpen, StandsNoBatch, StandsAltered, IsRecordAt, Checks, FindsRecord, FindsRecords, AreBatches}
 use Rattle.ws_journal.proofs.Starts.{length-kept}
 use Rattle.ws_journal.proofs.Texts.{length-digest, length-number}
@@ -96,6 +96,15 @@ pub record SoFar (edition : Edition) (at : ℕ) (file : List ℕ) (batches : Lis
 pub none_yet : (edition : Edition) (file : List ℕ) → SoFar edition 17 file []
 none_yet edition file = record { payloads = []; is = refl; each = All-nil IsPayload; listed = tt; place = refl }
 
+-- batches of these texts have these texts
+are_texts : (edition : Edition) (at : ℕ) (payloads : List (List ℕ)) (batches : List Batch) → AreBatches edition at payloads batches → payloads ≡ texts batches
+are_texts edition at [] [] are = refl
+are_texts edition at [] (b ∷ batches) are = absurd are
+are_texts edition at (p ∷ payloads) [] are = absurd are
+are_texts edition at (p ∷ payloads) (b ∷ batches) are =
+    let rest = are_texts edition (at + length (1 ∷ record_text edition p)) payloads batches are.2 in
+    (λ i. are.1 i ∷ rest i)
+
 batches_push : (edition : Edition) (at : ℕ) (payloads : List (List ℕ)) (batches : List Batch) (payload : List ℕ) (batch : Batch) → AreBatches edition at payloads batches
     → batch.at ≡ at + length (records edition payloads) → payload ≡ batch_text batch.events → AreBatches edition at (payloads ++ payload ∷ []) (batches ++ batch ∷ [])
 batches_push edition at [] [] payload batch are place text = (omega (arith, place), text, tt)
@@ -122,7 +131,9 @@ module _ (edition : Edition) (at : ℕ) (file : List ℕ) (batches : List Batch)
   pub at_end : StandsShut (drop at file) → FindsRecords edition (drop 17 file) (Ok (batches, at + 1))
   at_end (gate, after, is, shut) =
       let ps = so_far.payloads in
-      (ps, (gate, after, record { is = so_far.is ∙ ap (λ (l : List ℕ). records edition ps ++ l) is; batches = so_far.each }, shut), so_far.listed, omega (arith, so_far.place))
+      let stand : Stand edition ps gate after (drop 17 file) = record { is = so_far.is ∙ ap (λ (l : List ℕ). records edition ps ++ l) is; batches = so_far.each } in
+      subst (λ (texts : List (List ℕ)). IsFound edition texts (drop 17 file) × AreBatches edition 17 texts batches × (at + 1 ≡ 18 + length (records edition texts)))
+      (are_texts edition 17 ps batches so_far.listed) ((gate, after, stand, shut), so_far.listed, omega (arith, so_far.place))
 
   behind : (after : List ℕ) → drop at file ≡ 1 ∷ after → Stand edition so_far.payloads 1 after (drop 17 file)
   behind after is = record { is = so_far.is ∙ ap (λ (l : List ℕ). records edition so_far.payloads ++ l) is; batches = so_far.each }

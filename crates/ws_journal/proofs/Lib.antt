@@ -10,7 +10,9 @@ mod Looking
 mod Making
 mod Moments
 mod Once
+mod Opened
 mod Opening
+mod Reaching
 mod Readings
 mod Recorded
 mod Records

@@ -14,14 +14,14 @@ use Rattle.ws_journal.specs.declared.store.OpenFault.{OpenFault}
 use Rattle.ws_journal.specs.declared.store.OpenFault.TheVariants as Opening
 use Rattle.ws_journal.specs.declared.journal.Journal.{Journal}
 use Rattle.ws_journal.specs.declared.journal.Doubt.TheVariants.{Nothing}
-use Rattle.ws_journal.specs.Text.{head_text, records, front, IsPayload}
+use Rattle.ws_journal.specs.Text.{head_text, records, front, IsPayload, texts}
 use Rattle.ws_journal.specs.Image.{fresh, found, Reads, IsUsed, IsBelow, IsFound, Counts}
-use Rattle.ws_journal.specs.Kept.{IsShut, Each}
+use Rattle.ws_journal.specs.Kept.{IsShut, Each, Reaches}
 use Rattle.ws_journal.specs.Made.{IsSpare}
 use Rattle.ws_journal.specs.Stands.{Stands, counting, other}
 use Rattle.ws_journal.specs.Looks.{OnlyReads}
-use Rattle.ws_journal.specs.Device.{FindsRecords}
-use Rattle.ws_journal.specs.Recovered.{CountsOn, Chooses, opened, IsNew, Recovers, StillReads, StandsGiven, Confirmed}
+use Rattle.ws_journal.specs.Device.{FindsRecords, AreBatches}
+use Rattle.ws_journal.specs.Recovered.{CountsOn, Chooses, opened, IsNew, Recovers, StillReads, StandsGiven, Confirmed, EndsWithin}
 use Rattle.ws_journal.proofs.Readings.{reads_found}
 use Rattle.ws_journal.proofs.Spare.{length-head_text, spare_only}
 use Rattle.ws_journal.specs.Stands as Standing
@@ -79,7 +79,7 @@ new_recovers a b (Err fault) none new only = subst (λ (x : Result (Journal × V
 
 module _ {D : Type 0} (moment : D → ℕ) (images : D → ℕ → List ℕ → Type 0) where
   -- a new journal
-  pub stands_new : (limit : ℕ) (limited : limit ≤ 2 ^ 30) (begun : 17 < 18) (store : Store D) → Each (images store.a (moment store.a)) (IsShut (front Second 1 [])) → IsSpare 1 (images store.b (moment store.b))
+  stands_new : (limit : ℕ) (limited : limit ≤ 2 ^ 30) (begun : 17 < 18) (store : Store D) → Each (images store.a (moment store.a)) (IsShut (front Second 1 [])) → IsSpare 1 (images store.b (moment store.b))
       → Stands moment images (record { side = A; edition = Second; generation = 1; tail = 18; limit = limit; doubt = Nothing; limited = limited; begun = begun }) store [] None
   stands_new limit limited begun store made spare = record {
     generation = (lit< tt, lit< tt);
@@ -88,6 +88,12 @@ module _ {D : Type 0} (moment : D → ℕ) (images : D → ℕ → List ℕ → 
     device = record { tail = omega (arith, length-front Second 1 []); each = made; known = refl };
     rest = spare;
   }
+
+  pub given_new : (limit : ℕ) (limited : limit ≤ 2 ^ 30) (begun : 17 < 18) (store : Store D) (batches : List Batch) → batches ≡ [] → Each (images store.a (moment store.a)) (IsShut (front Second 1 [])) → IsSpare 1 (images store.b (moment store.b))
+      → Stands moment images (record { side = A; edition = Second; generation = 1; tail = 18; limit = limit; doubt = Nothing; limited = limited; begun = begun }) store (texts batches) None × AreBatches Second 17 (texts batches) batches
+  given_new limit limited begun store batches none made spare =
+      subst (λ (bs : List Batch). Stands moment images (record { side = A; edition = Second; generation = 1; tail = 18; limit = limit; doubt = Nothing; limited = limited; begun = begun }) store (texts bs) None × AreBatches Second 17 (texts bs) bs)
+      (sym none) (stands_new limit limited begun store made spare, tt)
 
   -- a journal that was found
   pub stands_found : (side : Side) (edition : Edition) (generation tail limit : ℕ) (limited : limit ≤ 2 ^ 30) (begun : 17 < tail) (store : Store D) (a b rest : List ℕ) (payloads : List (List ℕ))
@@ -134,10 +140,26 @@ module _ {D : Type 0} (moment : D → ℕ) (images : D → ℕ → List ℕ → 
 
   pub new_reads : (store : Store D) (a b : List ℕ) (r : Result (Journal × Vec Batch Global) OpenFault) → images store.a (moment store.a) a → images store.b (moment store.b) b
       → StandsGiven moment images store (opened r) → (IsErr r → r ≡ Err Opening.Disk) → StillReads a b (opened r)
-  new_reads store a b (Ok (journal, batches)) here there given only = (given.0, stands_read journal store given.0 given.1 a b here there, given.2)
+  new_reads store a b (Ok (journal, batches)) here there given only = (stands_read journal store (texts batches.items) given.0 a b here there, given.1)
   new_reads store a b (Err fault) here there given only = subst (λ (x : Result (Journal × Vec Batch Global) OpenFault). StillReads a b (opened x)) (sym (only refl)) tt
 
 -- what was confirmed stays so while nothing is written
 pub confirmed_on : {D : Type 0} (honest : D → Type 0) (seen : D → List ℕ) (moment : D → ℕ) (images : D → ℕ → List ℕ → Type 0) (faults : D → ℕ) (old new : D)
     → honest old → Confirmed seen moment images old → OnlyReads honest seen moment images faults old new → Only (seen old) (images new (moment new))
 confirmed_on honest seen moment images faults old new is confirmed reads image now = confirmed image ((reads.unwritten is).calm image now)
+
+module _ {D : Type 0} (honest : D → Type 0) (seen : D → List ℕ) (moment : D → ℕ) (images : D → ℕ → List ℕ → Type 0) (faults : D → ℕ) where
+  pub confirmed_still : (old new : D) → honest old → Confirmed seen moment images old → OnlyReads honest seen moment images faults old new → Confirmed seen moment images new
+  confirmed_still old new is confirmed reads image now =
+      confirmed_on honest seen moment images faults old new is confirmed reads image now ∙ sym (reads.unwritten is).same
+
+  module _ (tail : ℕ) (old new : Store D) (first : honest old.a → Confirmed seen moment images old.a) (second : honest old.b → Confirmed seen moment images old.b)
+      (reads_a : OnlyReads honest seen moment images faults old.a new.a) (reads_b : OnlyReads honest seen moment images faults old.b new.b) where
+    -- a tail that was read of a confirmed device
+    pub tail_on : (side : Side) → EndsWithin honest seen side old tail → honest (counting side new) → Each (images (counting side new) (moment (counting side new))) (Reaches tail)
+    tail_on A within now image left =
+        let was = reads_a.honesty.0 now in
+        omega (arith, within was, ap length (confirmed_on honest seen moment images faults old.a new.a was (first was) reads_a image left))
+    tail_on B within now image left =
+        let was = reads_b.honesty.0 now in
+        omega (arith, within was, ap length (confirmed_on honest seen moment images faults old.b new.b was (second was) reads_b image left))

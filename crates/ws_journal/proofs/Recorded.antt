@@ -4,8 +4,7 @@ use Rattle.std.specs.Prelude.{All}
 use Rattle.std.proofs.lemmas.List.Elements.{All-map}
 use Rattle.ws_record.specs.Batch.{batch_text}
 use Rattle.ws_journal.specs.declared.store.Batch.{Batch}
-use Rattle.ws_journal.specs.Text.{IsPayload}
-use Rattle.ws_journal.specs.Replaced.{IsRecorded, texts}
+use Rattle.ws_journal.specs.Text.{IsPayload, IsRecorded, texts}
 
 -- batches as records hold them have texts that are payloads
 pub payloads_of : (batches : List Batch) → All IsRecorded batches → All IsPayload (texts batches)

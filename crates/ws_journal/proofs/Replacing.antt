@@ -1,5 +1,5 @@
 -- What the calls of a replacement mean for the two devices.
-use Rattle.std.proofs.Common.{◌≡◌, ◌⊎◌, ⊎_elim, inl, inr, ◌+◌, ◌-◌, ◌^◌, ◌<◌, ◌≤◌, ◌∷◌, [], ◌++◌, ℕ, List, Option, Some, None, Result, Ok, Err, OnOk, OnErr, length, refl, sym, ◌∙◌, ap, subst, arith}
+use Rattle.std.proofs.Common.{◌≡◌, ◌⊎◌, ⊎_elim, inl, inr, ◌+◌, ◌-◌, ◌^◌, ◌<◌, ◌∷◌, [], ◌++◌, ℕ, List, Option, Some, None, Result, Ok, Err, OnOk, OnErr, length, refl, sym, ◌∙◌, ap, subst, arith}
 use Rattle.std.specs.Prelude.{All, false, IsErr, IsErrAnd, is_ok}
 use Rattle.std.proofs.lemmas.List.Elements.{All-push}
 use Rattle.ws_disk.specs.Crash.{LeavesOnly}
@@ -16,9 +16,9 @@ use Rattle.ws_journal.specs.Image.{found, IsGeneration, IsBelow}
 use Rattle.ws_journal.specs.Kept.{IsShut, Each}
 use Rattle.ws_journal.specs.Made.{IsSpare, IsHalfMade, IsMade, IsBelowOrMade}
 use Rattle.ws_journal.specs.Stands.{counting, other, ReadsAs, IsLeft, IsDoubted, doubt_of, Counts, Closes, SameJournal, Stands}
-use Rattle.ws_journal.specs.Replaced.{StandsBeside, IsKept, BesideCrash, CountingCrash, ReadsOlderOrNewer, ReadsLeft, ClosedBatch, ClosedDevice, IsNext, KnowsDevice, Replaced}
+use Rattle.ws_journal.specs.Replaced.{StandsBeside, BesideCrash, CountingCrash, ReadsOlderOrNewer, ReadsLeft, ClosedBatch, ClosedDevice, IsNext, KnowsDevice, Replaced}
 use Rattle.ws_journal.proofs.Readings.{shut_device, reads_found}
-use Rattle.ws_journal.proofs.Appending.{reads_side, place_at, one_more, standing_on}
+use Rattle.ws_journal.proofs.Appending.{reads_side, one_more, standing_on}
 use Rattle.ws_journal.proofs.Files.{shut_within, doubt_either}
 use Rattle.ws_journal.proofs.Making.{half_either}
 use Rattle.ws_journal.proofs.Opening.{length-front}
@@ -109,31 +109,24 @@ pub not_device : (journal : Journal) (doubt : Option (List ℕ)) → journal.dou
 not_device journal None known is = cc
 not_device journal (Some payload) known is = cc
 
--- a device that counts reaches its tail
-pub kept_place : {D : Type 0} (moment : D → ℕ) (images : D → ℕ → List ℕ → Type 0) (journal : Journal) (store : Store D) (file : List ℕ) → IsKept moment images journal store
-    → images (counting journal.side store) (moment (counting journal.side store)) file → journal.tail ≤ length file
-kept_place moment images journal store file (inl stands) there = place_at moment images journal journal.side refl store stands.0 stands.1 stands.2 file there
-kept_place moment images journal store file (inr beside) there =
-    omega (arith, shut_within (front journal.edition journal.generation beside.0) file (beside.2.device file there), beside.2.tail)
-
 pub failed_is : {T E : Type 0} (Q : E → Type 0) (r : Result T E) → IsErrAnd r Q → IsErr r
 failed_is Q (Ok x) failed = absurd failed
 failed_is Q (Err e) failed = refl
 
-module _ {D : Type 0} (moment : D → ℕ) (images : D → ℕ → List ℕ → Type 0) where
-  -- what is left of a device that counts reads as its batches, or with the one in doubt
-  reads_left : (journal : Journal) (payloads : List (List ℕ)) (doubt : Option (List ℕ)) (file second : List ℕ) → (journal.edition ≡ Second) ⊎ (doubt ≡ None) → IsGeneration journal.edition journal.generation
-      → All IsPayload payloads → IsDoubted doubt → IsLeft (front journal.edition journal.generation payloads) doubt file → IsBelow journal.generation second → ReadsLeft journal payloads doubt file second
-  reads_left journal payloads None file second edition is batches doubted shut below =
-      reads_side journal.side journal.edition journal.generation payloads file second is batches shut below
-  reads_left journal payloads (Some payload) file second (inr none) is batches doubted left below = absurd cc
-  reads_left journal payloads (Some payload) file second (inl edition) is batches doubted left below =
-      ⊎_elim (λ (shut : IsShut (front journal.edition journal.generation payloads) file). inl (reads_side journal.side journal.edition journal.generation payloads file second is batches shut below))
-      (λ (more : IsShut (front journal.edition journal.generation payloads ++ 1 ∷ record_text Second payload) file). inr
-      (reads_side journal.side journal.edition journal.generation (payloads ++ payload ∷ []) file second is (All-push IsPayload payloads payload batches doubted)
-      (subst (λ (f : List ℕ). IsShut f file) (one_more journal.edition journal.generation payloads payload edition) more) below))
-      (doubt_either (front journal.edition journal.generation payloads) (record_text Second payload) file left)
+-- what is left of a device that counts reads as its batches, or with the one in doubt
+pub reads_left : (journal : Journal) (payloads : List (List ℕ)) (doubt : Option (List ℕ)) (file second : List ℕ) → (journal.edition ≡ Second) ⊎ (doubt ≡ None) → IsGeneration journal.edition journal.generation
+    → All IsPayload payloads → IsDoubted doubt → IsLeft (front journal.edition journal.generation payloads) doubt file → IsBelow journal.generation second → ReadsLeft journal payloads doubt file second
+reads_left journal payloads None file second edition is batches doubted shut below =
+    reads_side journal.side journal.edition journal.generation payloads file second is batches shut below
+reads_left journal payloads (Some payload) file second (inr none) is batches doubted left below = absurd cc
+reads_left journal payloads (Some payload) file second (inl edition) is batches doubted left below =
+    ⊎_elim (λ (shut : IsShut (front journal.edition journal.generation payloads) file). inl (reads_side journal.side journal.edition journal.generation payloads file second is batches shut below))
+    (λ (more : IsShut (front journal.edition journal.generation payloads ++ 1 ∷ record_text Second payload) file). inr
+    (reads_side journal.side journal.edition journal.generation (payloads ++ payload ∷ []) file second is (All-push IsPayload payloads payload batches doubted)
+    (subst (λ (f : List ℕ). IsShut f file) (one_more journal.edition journal.generation payloads payload edition) more) below))
+    (doubt_either (front journal.edition journal.generation payloads) (record_text Second payload) file left)
 
+module _ {D : Type 0} (moment : D → ℕ) (images : D → ℕ → List ℕ → Type 0) where
   -- a run of calls of the device that counts
   counting_crash : (side : Side) (old new : Store D) (P Q : List ℕ → Type 0) (R : List ℕ → List ℕ → Type 0) → other side new ≡ other side old → Each (images (other side old) (moment (other side old))) Q
       → ((file second : List ℕ) → P file → Q second → R file second) → LeavesOnly moment images (counting side old) (counting side new) P → CountingCrash moment images side old new R

@@ -19,7 +19,7 @@ use Rattle.ws_journal.specs.declared.scan.Whole.{Whole}
 use Rattle.ws_record.specs.Batch.{IsBatch, batch_text}
 use Rattle.ws_journal.specs.declared.scan.Record.{Record}
 use Rattle.ws_journal.specs.declared.store.Batch.{Batch}
-use Rattle.ws_journal.specs.Text.{record_text, records, IsPayload}
+use Rattle.ws_journal.specs.Text.{record_text, records, IsPayload, texts}
 use Rattle.ws_journal.specs.Image.{IsFound, IsDamaged, IsAltered, IsWhole, IsKept, IsUnused, IsForeign, IsDevice, IsCutShort, digest_len}
 
 abbrev pub as_open : ReadBack → OpenFault
@@ -154,7 +154,7 @@ as_lists (Err fault) = Err fault
 -- the records of a device from the first gate on: its batches and its tail, or the first fault
 abbrev pub FindsRecords : Edition → List ℕ → Result (List Batch × ℕ) OpenFault → Type 0
 FindsRecords edition rest (Ok (batches, tail)) =
-    (payloads : List (List ℕ)) × IsFound edition payloads rest × AreBatches edition 17 payloads batches × (tail ≡ 18 + length (records edition payloads))
+    IsFound edition (texts batches) rest × AreBatches edition 17 (texts batches) batches × (tail ≡ 18 + length (records edition (texts batches)))
 FindsRecords edition rest (Err (Opening.Damaged place)) = IsDamaged edition rest place
 FindsRecords edition rest (Err (Opening.Altered place kept found)) = IsAltered edition rest place kept found
 FindsRecords edition rest (Err (Opening.Foreign place)) = ⊥

@@ -31,3 +31,7 @@ After step images image = (earlier : List ℕ) × images earlier × step earlier
 -- each of these images is like that
 abbrev pub Each : (List ℕ → Type 0) → (List ℕ → Type 0) → Type 0
 Each images P = (image : List ℕ) → images image → P image
+
+-- it has that many bytes, or more
+abbrev pub Reaches : ℕ → List ℕ → Type 0
+Reaches size image = size ≤ length image

@@ -4,6 +4,7 @@ pub mod Kept
 pub mod Looks
 pub mod Made
 pub mod OneReading
+pub mod Opens
 pub mod Recovered
 pub mod Replaced
 pub mod Stands

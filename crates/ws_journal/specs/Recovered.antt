@@ -1,5 +1,5 @@
 -- What the opening of a store gives (own).
-use Rattle.std.specs.Prelude.{Vec, ◌≡◌, ◌⊎◌, ℕ, List, [], Option, Some, None, Result, Ok, Err}
+use Rattle.std.specs.Prelude.{Vec, ◌≡◌, ◌⊎◌, ℕ, ◌≤◌, List, [], length, Option, Some, None, Result, Ok, Err}
 use Rattle.std.specs.Global.{Global}
 use Rattle.ws_model.specs.Cause.{Rose}
 use Rattle.ws_disk.specs.Crash.{Only, LeavesOnly}
@@ -13,10 +13,10 @@ use Rattle.ws_journal.specs.declared.store.OpenFault.{OpenFault}
 use Rattle.ws_journal.specs.declared.store.OpenFault.TheVariants as Opening
 use Rattle.ws_journal.specs.declared.journal.Journal.{Journal}
 use Rattle.ws_journal.specs.declared.choose.Counting.{Counting}
-use Rattle.ws_journal.specs.Text.{front}
+use Rattle.ws_journal.specs.Text.{front, texts}
 use Rattle.ws_journal.specs.Image.{fresh, found, foreign, damaged, altered, Reads, IsUnused, IsDevice, IsBelow}
 use Rattle.ws_journal.specs.Kept.{IsShut}
-use Rattle.ws_journal.specs.Stands.{Stands}
+use Rattle.ws_journal.specs.Stands.{Stands, counting}
 use Rattle.ws_journal.specs.Device.{AreBatches}
 
 -- a device of this edition and generation is on this side, and the other one doesn't count
@@ -42,7 +42,7 @@ opened (Err fault) = Err fault
 -- two files read as the batches that were given
 abbrev pub ReadsGiven : List ℕ → List ℕ → Journal → List Batch → Type 0
 ReadsGiven a b journal batches =
-    (payloads : List (List ℕ)) × Reads a b (found journal.edition journal.generation payloads) × AreBatches journal.edition 17 payloads batches
+    Reads a b (found journal.edition journal.generation (texts batches)) × AreBatches journal.edition 17 (texts batches) batches
 
 -- a journal of edition 2 and generation 1 without batches
 abbrev pub IsNew : Journal → List Batch → Type 0
@@ -69,8 +69,12 @@ StillReads a b (Err Opening.NoMemory) = Unit {0}
 -- the journal stands for the batches that were given, with none in doubt
 abbrev pub StandsGiven : {D : Type 0} → (D → ℕ) → (D → ℕ → List ℕ → Type 0) → Store D → Result (Journal × List Batch) OpenFault → Type 0
 StandsGiven moment images store (Ok (journal, batches)) =
-    (payloads : List (List ℕ)) × Stands moment images journal store payloads None × AreBatches journal.edition 17 payloads batches
+    Stands moment images journal store (texts batches) None × AreBatches journal.edition 17 (texts batches) batches
 StandsGiven moment images store (Err fault) = Unit {0}
+
+-- the tail that was read lies within the device of that side, where it is honest
+abbrev pub EndsWithin : {D : Type 0} → (D → Type 0) → (D → List ℕ) → Side → Store D → ℕ → Type 0
+EndsWithin honest seen side store tail = honest (counting side store) → tail ≤ length (seen (counting side store))
 
 -- a crash leaves what a read gives, and nothing else
 abbrev pub Confirmed : {D : Type 0} → (D → List ℕ) → (D → ℕ) → (D → ℕ → List ℕ → Type 0) → D → Type 0

@@ -1,9 +1,7 @@
 -- What a replacement of a journal's batches leaves of its two devices (own).
-use Rattle.std.specs.Prelude.{map, ◌≡◌, ◌⊎◌, ℕ, ◌<◌, ◌≤◌, ◌+◌, ◌-◌, ◌^◌, List, [], ◌∷◌, ◌++◌, length, Option, Some, None, All, Bool, true, false, Result, Ok, Err, IsErr}
+use Rattle.std.specs.Prelude.{◌≡◌, ◌⊎◌, ℕ, ◌<◌, ◌≤◌, ◌+◌, ◌-◌, ◌^◌, List, [], ◌∷◌, ◌++◌, length, Option, Some, None, All, Bool, true, false, Result, Ok, Err, IsErr}
 use Rattle.std.specs.List.{sum_by}
 use Rattle.ws_record.specs.Text.{capped}
-use Rattle.ws_record.specs.Batch.{batch_text, IsBatch}
-use Rattle.ws_journal.specs.declared.store.Batch.{Batch}
 use Rattle.ws_journal.specs.declared.store.Edition.TheVariants.{Second}
 use Rattle.ws_journal.specs.declared.store.Side.{Side}
 use Rattle.ws_journal.specs.declared.store.Store.{Store}
@@ -29,12 +27,6 @@ pub record StandsBeside {D : Type 0} (moment : D → ℕ) (images : D → ℕ �
   pub device : Each (images (counting journal.side store) (moment (counting journal.side store))) (IsShut (front journal.edition journal.generation payloads))
   pub known : journal.doubt ≡ Device
   pub beside : Each (images (other journal.side store) (moment (other journal.side store))) (IsHalfMade (journal.generation + 1) newer)
-
--- a journal and its store as the journal's calls leave them
-abbrev pub IsKept : {D : Type 0} → (D → ℕ) → (D → ℕ → List ℕ → Type 0) → Journal → Store D → Type 0
-IsKept moment images journal store =
-    ((payloads : List (List ℕ)) × (doubt : Option (List ℕ)) × Stands moment images journal store payloads doubt)
-    ⊎ ((payloads newer : List (List ℕ)) × StandsBeside moment images journal store payloads newer)
 
 -- A crash at any moment of a run of calls of the other device leaves two files that read so. The device that counts isn't
 -- touched.
@@ -144,15 +136,6 @@ pub record ReplaceFull (journal : Journal) (payloads : List (List ℕ)) (result 
   pub last : IsLast journal → result ≡ Err (Full (2 ^ 63 - 1) 1)
   pub past : (IsLast journal → ⊥) → PassesWith journal payloads → result ≡ Err (Full 18 (capped (records_len payloads)))
   pub only : (tail asked : ℕ) → result ≡ Err (Full tail asked) → IsLast journal ⊎ PassesWith journal payloads
-
--- a batch as a record holds one
-pub record IsRecorded (batch : Batch) : Type 0 where
-  pub events : IsBatch batch.events
-  pub short : length (batch_text batch.events) < 2 ^ 32
-
--- the texts of batches
-abbrev pub texts : List Batch → List (List ℕ)
-texts batches = map (λ batch. batch_text batch.events) batches
 
 -- An append beside a device in doubt: its gate is closed first, and then it is an append beside no doubt.
 pub record AppendsClosed {D : Type 0} (moment : D → ℕ) (images : D → ℕ → List ℕ → Type 0) (journal after : Journal) (old new : Store D) (payloads newer : List (List ℕ)) (payload : List ℕ) (result : Result (Unit {0}) AppendFault) : Type 0 where

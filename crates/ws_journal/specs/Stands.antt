@@ -13,7 +13,7 @@ use Rattle.ws_journal.specs.declared.journal.Doubt.{Doubt}
 use Rattle.ws_journal.specs.declared.journal.Doubt.TheVariants.{Nothing, Batch}
 use Rattle.ws_journal.specs.Text.{front, record_text, IsPayload}
 use Rattle.ws_journal.specs.Image.{Reading, found, Reads, IsGeneration}
-use Rattle.ws_journal.specs.Kept.{IsShut, IsInDoubt, IsWithOrWithout, Each}
+use Rattle.ws_journal.specs.Kept.{IsShut, IsInDoubt, IsWithOrWithout, Each, Reaches}
 use Rattle.ws_journal.specs.Made.{IsSpare}
 
 abbrev pub edition_number : Edition → ℕ
@@ -33,6 +33,11 @@ other B store = store.a
 abbrev pub ReadsAs : Side → List ℕ → List ℕ → Reading → Type 0
 ReadsAs A file second reading = Reads file second reading
 ReadsAs B file second reading = Reads second file reading
+
+-- no crash now leaves the device that counts shorter than the journal's tail says, where that device is honest
+abbrev pub HasTail : {D : Type 0} → (D → Type 0) → (D → ℕ) → (D → ℕ → List ℕ → Type 0) → Journal → Store D → Type 0
+HasTail honest moment images journal store =
+    honest (counting journal.side store) → Each (images (counting journal.side store) (moment (counting journal.side store))) (Reaches journal.tail)
 
 -- the device that counts, up to its last gate: with no batch in doubt, or with one
 abbrev pub IsLeft : List ℕ → Option (List ℕ) → List ℕ → Type 0

@@ -1,10 +1,11 @@
 -- The texts on a journal's device (own): numbers are unsigned and big-endian.
-use Rattle.std.specs.Prelude.{◌≡◌, ℕ, ◌<◌, ◌^◌, List, [], ◌∷◌, ◌++◌, length}
+use Rattle.std.specs.Prelude.{map, ◌≡◌, ℕ, ◌<◌, ◌^◌, List, [], ◌∷◌, ◌++◌, length}
 use Rattle.std.specs.Int.{w32, w64}
 use Rattle.sha2.specs.Sha256.{sha256}
 use Rattle.ws_model.specs.declared.event.Event.{Event}
 use Rattle.ws_record.specs.Text.{number_text}
 use Rattle.ws_record.specs.Batch.{batch_text, IsBatch}
+use Rattle.ws_journal.specs.declared.store.Batch.{Batch}
 use Rattle.ws_journal.specs.declared.store.Edition.{Edition}
 use Rattle.ws_journal.specs.declared.store.Edition.TheVariants.{First, Second}
 
@@ -41,3 +42,12 @@ pub record IsPayload (payload : List ℕ) : Type 0 where
   pub batch : IsBatch events
   pub text : payload ≡ batch_text events
   pub short : length payload < 2 ^ 32
+
+-- a batch as a record holds one
+pub record IsRecorded (batch : Batch) : Type 0 where
+  pub events : IsBatch batch.events
+  pub short : length (batch_text batch.events) < 2 ^ 32
+
+-- the texts of batches
+abbrev pub texts : List Batch → List (List ℕ)
+texts batches = map (λ batch. batch_text batch.events) batches

@@ -5,7 +5,7 @@ ghost use Rattle.ws_disk.specs.Crash.{LeavesOnly};
 ghost use Rattle.ws_journal.specs.declared.append.Stop.TheVariants.{Before, InDoubt};
 ghost use Rattle.ws_journal.specs.declared.store.Edition.TheVariants.{Second};
 ghost use Rattle.ws_journal.specs.Text.{record_text, IsPayload};
-ghost use Rattle.ws_journal.specs.Kept.{IsShut, IsInDoubt, IsWithOrWithout, Each};
+ghost use Rattle.ws_journal.specs.Kept.{IsShut, IsInDoubt, IsWithOrWithout, Each, Reaches};
 
 use crate::gate::set_gate;
 use crate::journal::{Doubt, Journal};
@@ -47,6 +47,8 @@ fn append_record<D: Disk>(disk: &mut D, tail: u64, payload: &[u8]) -> Result<(),
         → IsErrOf result Before → Each (D.images disk.new (D.moment disk.new)) (IsShut front) }
     ensures in_doubt { (front : List ℕ) → D.honest disk.old → length front + 1 ≡ tail → Each (D.images disk.old (D.moment disk.old)) (IsShut front)
         → IsErrOf result InDoubt → Each (D.images disk.new (D.moment disk.new)) (IsInDoubt front (record_text Second payload.now)) }
+    ensures keeps { D.honest disk.old → Each (D.images disk.old (D.moment disk.old)) (Reaches tail) → Each (D.images disk.new (D.moment disk.new)) (Reaches tail) }
+    ensures reaches { OnOk result (D.honest disk.old → Each (D.images disk.new (D.moment disk.new)) (Reaches (tail + (length payload.now + 37)))) }
     ensures honesty { D.honest disk.new ↔ D.honest disk.old }
     ensures cause { HasCause (D.faults disk.old) (D.faults disk.new) result }
 {
@@ -59,8 +61,8 @@ fn append_record<D: Disk>(disk: &mut D, tail: u64, payload: &[u8]) -> Result<(),
 
 impl Journal {
     ghost use Rattle.ws_journal.specs.declared.journal.Doubt.TheVariants.{Batch, Device};
-    ghost use Rattle.ws_journal.specs.Stands.{IsLeft, Counts, SameJournal, Closes, ClosesFirst, Appends, Stands, counting, other, AppendCrash, DoubtClosed, Appended, PassesLimit, FullExactly};
-    ghost use Rattle.ws_journal.specs.Replaced.{StandsBeside, IsKept, AppendsBeside};
+    ghost use Rattle.ws_journal.specs.Stands.{IsLeft, Counts, HasTail, SameJournal, Closes, ClosesFirst, Appends, Stands, counting, other, AppendCrash, DoubtClosed, Appended, PassesLimit, FullExactly};
+    ghost use Rattle.ws_journal.specs.Replaced.{StandsBeside, AppendsBeside};
 
     /// Closes the gate of the device that counts where it is in doubt.
     pub(crate) fn close_doubt<D: Disk>(&mut self, disk: &mut D) -> Result<(), DiskFailed>
@@ -71,6 +73,7 @@ impl Journal {
         ensures closes { (front : List ℕ) (doubt : Option (List ℕ)) → D.honest disk.old → Counts self.old front doubt (D.images disk.old (D.moment disk.old))
             → Closes self.new front doubt (D.images disk.new (D.moment disk.new)) result }
         ensures place { OnOk result (D.honest disk.new → self.new.tail ≤ length (D.seen disk.new)) }
+        ensures keeps { D.honest disk.old → Each (D.images disk.old (D.moment disk.old)) (Reaches self.old.tail) → Each (D.images disk.new (D.moment disk.new)) (Reaches self.old.tail) }
         ensures same { SameJournal self.old self.new }
         ensures tail { self.new.tail ≡ self.old.tail }
         ensures honesty { D.honest disk.new ↔ D.honest disk.old }
@@ -94,6 +97,7 @@ impl Journal {
             → ClosesFirst D.moment D.images disk.old disk.new self.new front doubt payload.now result }
         ensures appends { (front : List ℕ) (doubt : Option (List ℕ)) → D.honest disk.old → Counts self.old front doubt (D.images disk.old (D.moment disk.old))
             → Appends self.old self.new front doubt payload.now (D.images disk.new (D.moment disk.new)) result }
+        ensures reaches { D.honest disk.old → Each (D.images disk.old (D.moment disk.old)) (Reaches self.old.tail) → Each (D.images disk.new (D.moment disk.new)) (Reaches self.new.tail) }
         ensures same { SameJournal self.old self.new }
         ensures only_disk { IsErr result → result ≡ Err AppendFault.Disk }
         ensures honesty { D.honest disk.new ↔ D.honest disk.old }
@@ -129,6 +133,7 @@ impl Journal {
             → DoubtClosed D.moment D.images self.old self.new store.old store.new payloads doubt payload.now result }
         ensures appended { (payloads : List (List ℕ)) (doubt : Option (List ℕ)) → D.honest (counting self.old.side store.old) → Stands D.moment D.images self.old store.old payloads doubt
             → Appended D.moment D.images self.new store.new payloads doubt payload.now result }
+        ensures reaches { HasTail D.honest D.moment D.images self.old store.old → HasTail D.honest D.moment D.images self.new store.new }
         ensures same { SameJournal self.old self.new }
         ensures only_disk { IsErr result → result ≡ Err AppendFault.Disk }
         ensures untouched { other self.old.side store.new ≡ other self.old.side store.old }
@@ -159,7 +164,7 @@ impl Journal {
     ) -> Result<(), AppendFault>
         requires edition { self.old.edition ≡ Second }
         requires batch { IsPayload payload.now }
-        requires stands { D.honest (counting self.old.side store.old) → IsKept D.moment D.images self.old store.old }
+        requires place { HasTail D.honest D.moment D.images self.old store.old }
         ensures full { FullExactly self.old payload.now result }
         ensures untouched { PassesLimit self.old payload.now → (store.new ≡ store.old) × (self.new ≡ self.old) }
         // A crash at any moment of the call leaves the batches before it, with the new one or without.
@@ -173,6 +178,7 @@ impl Journal {
         ensures device_closed { (payloads newer : List (List ℕ)) → D.honest (counting self.old.side store.old) → D.honest (other self.old.side store.old)
             → StandsBeside D.moment D.images self.old store.old payloads newer → (PassesLimit self.old payload.now → ⊥)
             → AppendsBeside D.moment D.images self.old self.new store.old store.new payloads newer payload.now result }
+        ensures place { HasTail D.honest D.moment D.images self.new store.new }
         ensures same { SameJournal self.old self.new }
         ensures honesty { D.honest (counting self.old.side store.new) ↔ D.honest (counting self.old.side store.old) }
         ensures other_honesty { D.honest (other self.old.side store.new) ↔ D.honest (other self.old.side store.old) }

@@ -16,8 +16,7 @@ pub(crate) fn make_fresh<D: Disk>(disk: &mut D) -> Result<(), DiskFailed>
     // A crash at any moment of the call leaves it unused, or the new one.
     ensures any_moment { D.honest disk.old → IsSpare 0 (D.images disk.old (D.moment disk.old))
         → LeavesOnly D.moment D.images disk.old disk.new (IsUnusedOrMade 1 []) }
-    ensures made { D.honest disk.old → IsSpare 0 (D.images disk.old (D.moment disk.old))
-        → OnOk result (Each (D.images disk.new (D.moment disk.new)) (IsMade 1 [])) }
+    ensures made { D.honest disk.old → OnOk result (Each (D.images disk.new (D.moment disk.new)) (IsMade 1 [])) }
     ensures honesty { D.honest disk.new ↔ D.honest disk.old }
     ensures cause { HasCause (D.faults disk.old) (D.faults disk.new) result }
 {

@@ -30,6 +30,7 @@ pub struct Journal {
 
 impl Journal {
     ghost use Rattle.std.specs.Prelude.{◌≡◌};
+    ghost use Rattle.ws_journal.specs.declared.store.Edition.TheVariants.{First, Second};
     ghost use Rattle.ws_journal.specs.Stands.{edition_number};
 
     /// The place behind the last gate of the device that counts, in bytes.
@@ -41,7 +42,9 @@ impl Journal {
 
     /// The edition of the device that counts: 1 or 2.
     pub fn edition(&self) -> u8
-        ensures { result ≡ edition_number self.now.edition }
+        ensures number { result ≡ edition_number self.now.edition }
+        ensures first { result ≡ 1 → self.now.edition ≡ First }
+        ensures second { (result ≡ 1 → ⊥) → self.now.edition ≡ Second }
     {
         match self.edition {
             Edition::First => 1,

@@ -4,6 +4,8 @@
 mod append;
 mod choose;
 mod clear;
+#[cfg(test)]
+mod fault_tests;
 mod fresh;
 mod gate;
 mod head;

@@ -91,8 +91,7 @@ pub(crate) fn make_device<D: Disk>(
     requires room { length (records Second batches.now) < 2 ^ 61 }
     ensures any_moment { (older : ℕ) → D.honest disk.old → IsSpare older (D.images disk.old (D.moment disk.old))
         → LeavesOnly D.moment D.images disk.old disk.new (IsBelowOrMade older generation batches.now) }
-    ensures made { (older : ℕ) → D.honest disk.old → IsSpare older (D.images disk.old (D.moment disk.old))
-        → OnOk result (Each (D.images disk.new (D.moment disk.new)) (IsMade generation batches.now)) }
+    ensures made { D.honest disk.old → OnOk result (Each (D.images disk.new (D.moment disk.new)) (IsMade generation batches.now)) }
     ensures before { (older : ℕ) → D.honest disk.old → IsSpare older (D.images disk.old (D.moment disk.old))
         → IsErrOf result Before → StaysSpare D.moment D.images older disk.old disk.new }
     ensures in_doubt { (older : ℕ) → D.honest disk.old → IsSpare older (D.images disk.old (D.moment disk.old))

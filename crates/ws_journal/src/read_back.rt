@@ -105,7 +105,7 @@ fn read_device_texts<D: Disk>(
 }
 
 impl Journal {
-    ghost use Rattle.ws_journal.specs.Stands.{Stands, counting, other};
+    ghost use Rattle.ws_journal.specs.Stands.{Stands, HasTail, counting, other};
 
     /// The texts of the journal's batches from that number on, without a batch in doubt.
     ///
@@ -121,6 +121,7 @@ impl Journal {
             → IfOk result (λ texts. texts.items ≡ drop from payloads) }
         ensures stands { (payloads : List (List ℕ)) (doubt : Option (List ℕ)) → D.honest (counting self.now.side store.old) → Stands D.moment D.images self.now store.old payloads doubt
             → Stands D.moment D.images self.now store.new payloads doubt }
+        ensures place { HasTail D.honest D.moment D.images self.now store.old → HasTail D.honest D.moment D.images self.now store.new }
         ensures reads { OnlyReads D.honest D.seen D.moment D.images D.faults (counting self.now.side store.old) (counting self.now.side store.new) }
         ensures untouched { other self.now.side store.new ≡ other self.now.side store.old }
         ensures cause { result ≡ Err ReadBack.Disk → Rose (D.faults (counting self.now.side store.old)) (D.faults (counting self.now.side store.new)) }

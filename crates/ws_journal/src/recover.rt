@@ -1,12 +1,14 @@
 // Opening a store: both devices are confirmed, and the one that counts is read.
-ghost use Rattle.std.specs.Prelude.{◌≡◌, ◌<◌, ◌≤◌, ◌^◌, ◌↔◌, ◌⊎◌, ℕ, List, length, drop, IfOk, OnOk, Err, IsErr};
+ghost use Rattle.std.specs.Prelude.{◌≡◌, ◌<◌, ◌≤◌, ◌^◌, ◌↔◌, ◌⊎◌, ℕ, List, length, drop, All, IfOk, OnOk, Err, IsErr};
 ghost use Rattle.ws_model.specs.Cause.{HasCause, Rose};
 ghost use Rattle.ws_disk.specs.Crash.{LeavesOnly};
 ghost use Rattle.ws_journal.specs.declared.store.Edition.{Edition};
+ghost use Rattle.ws_journal.specs.Text.{IsRecorded};
 ghost use Rattle.ws_journal.specs.Image.{IsDevice, IsUnused};
 ghost use Rattle.ws_journal.specs.Looks.{OnlyReads};
 ghost use Rattle.ws_journal.specs.Device.{FindsRecords, as_lists};
-ghost use Rattle.ws_journal.specs.Recovered.{CountsOn, Chooses, Confirmed, RoseEither, IsNew, IsMaking, opened, Recovers, StillReads, StandsGiven, RecoverCrash};
+ghost use Rattle.ws_journal.specs.Stands.{HasTail};
+ghost use Rattle.ws_journal.specs.Recovered.{CountsOn, Chooses, Confirmed, EndsWithin, RoseEither, IsNew, IsMaking, opened, Recovers, StillReads, StandsGiven, RecoverCrash};
 
 use crate::choose::{Counting, choose};
 use crate::fresh::{FIRST_GENERATION, make_fresh};
@@ -49,7 +51,9 @@ fn read_device<D: Disk>(
 ) -> Result<(Vec<Batch>, u64), OpenFault>
     ensures records { D.honest disk.old → (generation : ℕ) (rest : List ℕ) → IsDevice edition generation rest (D.seen disk.old)
         → FindsRecords edition rest (as_lists result) }
+    ensures recorded { IfOk result (λ read. All IsRecorded read.0.items) }
     ensures tail { IfOk result (λ read. 17 < read.1) }
+    ensures within { IfOk result (λ read. D.honest disk.old → read.1 ≤ length (D.seen disk.old)) }
     ensures reads { OnlyReads D.honest D.seen D.moment D.images D.faults disk.old disk.new }
     ensures cause { result ≡ Err OpenFault.Disk → Rose (D.faults disk.old) (D.faults disk.new) }
 {
@@ -69,7 +73,9 @@ fn read_counting<D: Disk>(
 ) -> Result<(Vec<Batch>, u64), OpenFault>
     ensures records { D.honest store.old.a → D.honest store.old.b → (rest : List ℕ)
         → CountsOn counting.side counting.edition counting.generation rest (D.seen store.old.a) (D.seen store.old.b) → FindsRecords counting.edition rest (as_lists result) }
+    ensures recorded { IfOk result (λ read. All IsRecorded read.0.items) }
     ensures tail { IfOk result (λ read. 17 < read.1) }
+    ensures within { IfOk result (λ read. EndsWithin D.honest D.seen counting.side store.old read.1) }
     ensures reads_a { OnlyReads D.honest D.seen D.moment D.images D.faults store.old.a store.new.a }
     ensures reads_b { OnlyReads D.honest D.seen D.moment D.images D.faults store.old.b store.new.b }
     ensures cause { result ≡ Err OpenFault.Disk → RoseEither D.faults store.old store.new }
@@ -88,9 +94,11 @@ fn recover_new<D: Disk>(
 ) -> Result<(Journal, Vec<Batch>), OpenFault>
     requires { limit ≤ 2 ^ 30 }
     ensures new { IfOk (opened result) (λ one. IsNew one.0 one.1) }
+    ensures recorded { IfOk result (λ one. All IsRecorded one.1.items) }
     ensures limit { IfOk result (λ one. one.0.limit ≡ limit) }
     ensures stands { D.honest store.old.a → IsUnused (D.seen store.old.a) → IsUnused (D.seen store.old.b) → Confirmed D.seen D.moment D.images store.old.a → Confirmed D.seen D.moment D.images store.old.b
         → StandsGiven D.moment D.images store.new (opened result) }
+    ensures place { IfOk result (λ one. HasTail D.honest D.moment D.images one.0 store.new) }
     ensures any_moment { D.honest store.old.a → IsUnused (D.seen store.old.a) → Confirmed D.seen D.moment D.images store.old.a
         → LeavesOnly D.moment D.images store.old.a store.new.a IsMaking }
     ensures untouched { store.new.b ≡ store.old.b }
@@ -123,6 +131,9 @@ fn recover_used<D: Disk>(
     ensures stands { D.honest store.old.a → D.honest store.old.b → (rest : List ℕ)
         → CountsOn counting.side counting.edition counting.generation rest (D.seen store.old.a) (D.seen store.old.b) → Confirmed D.seen D.moment D.images store.new.a
         → Confirmed D.seen D.moment D.images store.new.b → StandsGiven D.moment D.images store.new (opened result) }
+    ensures place { (D.honest store.old.a → Confirmed D.seen D.moment D.images store.old.a) → (D.honest store.old.b → Confirmed D.seen D.moment D.images store.old.b)
+        → IfOk result (λ one. HasTail D.honest D.moment D.images one.0 store.new) }
+    ensures recorded { IfOk result (λ one. All IsRecorded one.1.items) }
     ensures limit { IfOk result (λ one. one.0.limit ≡ limit) }
     ensures reads_a { OnlyReads D.honest D.seen D.moment D.images D.faults store.old.a store.new.a }
     ensures reads_b { OnlyReads D.honest D.seen D.moment D.images D.faults store.old.b store.new.b }
@@ -165,6 +176,9 @@ impl Journal {
         ensures every_image { D.honest store.old.a → D.honest store.old.b → (file second : List ℕ) → D.images store.new.a (D.moment store.new.a) file
             → D.images store.new.b (D.moment store.new.b) second → StillReads file second (opened result) }
         ensures stands { D.honest store.old.a → D.honest store.old.b → StandsGiven D.moment D.images store.new (opened result) }
+        // Each batch that was given is one that a record can hold.
+        ensures recorded { IfOk result (λ one. All IsRecorded one.1.items) }
+        ensures place { IfOk result (λ one. HasTail D.honest D.moment D.images one.0 store.new) }
         ensures limit { IfOk result (λ one. one.0.limit ≡ limit) }
         ensures any_moment { D.honest store.old.a → D.honest store.old.b → RecoverCrash D.seen D.moment D.images store.old store.new }
         ensures honesty_a { D.honest store.new.a ↔ D.honest store.old.a }

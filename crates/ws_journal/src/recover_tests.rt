@@ -22,6 +22,29 @@ const FIRST_WITH_ONE: &[u8; 54] = b"\x01WEBSUBJ1\x00\x00\x00\x00\x00\x00\x00\x01
     \x00\x00\x00\x01\x00\x00\x00\x00\x00\x00\x00\x09\x00\x00\x00\x00\x00\x00\x03\xe8\
     \x03\x00\x00\x00\x00\x00\x00\x00\x07\x01\x94\x00";
 
+// A device of edition 2 and generation 1 with one record: an event with the serial 1 at 1,000 seconds, which accepts the
+// intent 1 of a subscription with a lease of 864,000 seconds. Its payload is from place 54 to 165, and its last gate at 166.
+const ASKED: &[u8; 167] = b"\x01WEBSUBJ2\x00\x00\x00\x00\x00\x00\x00\x01\
+    \x01\x00\x00\x00\x70\
+    \xa2\x0a\xaf\x56\x30\x73\x94\xe0\xb4\x69\x73\x15\x92\x8c\x00\x6e\
+    \x9c\x39\xdb\x50\x52\x24\x88\x4c\x81\xc9\x85\x58\x8a\x95\xe6\x7d\
+    \x00\x00\x00\x01\x00\x00\x00\x00\x00\x00\x00\x01\x00\x00\x00\x00\x00\x00\x03\xe8\
+    \x01\x00\x00\x00\x00\x00\x00\x00\x01\x01\
+    \x00\x00\x00\x14http://pub.example/x\
+    \x00\x00\x00\x14http://pub.example/x\
+    \x00\x00\x00\x15http://sub.example/cb\
+    \x00\x00\x00\x00\x00\x0d\x2f\x00\x01\x00";
+
+// The same in edition 1.
+const FIRST_ASKED: &[u8; 135] = b"\x01WEBSUBJ1\x00\x00\x00\x00\x00\x00\x00\x01\
+    \x01\x00\x00\x00\x70\
+    \x00\x00\x00\x01\x00\x00\x00\x00\x00\x00\x00\x01\x00\x00\x00\x00\x00\x00\x03\xe8\
+    \x01\x00\x00\x00\x00\x00\x00\x00\x01\x01\
+    \x00\x00\x00\x14http://pub.example/x\
+    \x00\x00\x00\x14http://pub.example/x\
+    \x00\x00\x00\x15http://sub.example/cb\
+    \x00\x00\x00\x00\x00\x0d\x2f\x00\x01\x00";
+
 // A device of edition 2 and generation 2 without records.
 const EMPTY_SECOND: &[u8; 18] = b"\x01WEBSUBJ2\x00\x00\x00\x00\x00\x00\x00\x02\x00";
 
@@ -102,22 +125,47 @@ fn gives(
 
 #[test]
 fn device_gates_and_cuts(rt: HostRuntime) -> Result<(), Fail> {
-    assert!(rt; gives(&rt, WITH_ONE, b"", (1, 2, 86), &[17])?);
-    // The first record's gate isn't open.
-    for gate in [0, 2, 255] {
-        let mut shut = *WITH_ONE;
-        shut[17] = gate;
-        assert!(rt; gives(&rt, &shut, b"", (1, 2, 18), &[])?);
-    }
-    // Cut within the record, or before its next gate.
-    for size in [18, 22, 53, 54, 85] {
-        let cut = OpenFault::Damaged { at: 17 };
-        assert!(rt; refuses(&rt, &WITH_ONE[..size], b"", cut)?);
+    assert!(rt; gives(&rt, ASKED, b"", (1, 2, 167), &[17])?);
+    assert!(rt; gives(&rt, FIRST_ASKED, b"", (1, 1, 135), &[17])?);
+    for gate in 2..=255 {
+        // The first record's gate isn't open, or the device's isn't.
+        for place in [0, 17] {
+            let mut shut = *ASKED;
+            shut[place] = gate;
+            assert!(rt; gives(&rt, &shut, b"", (1, 2, 18), &[])?);
+            shut[place] = 0;
+            assert!(rt; gives(&rt, &shut, b"", (1, 2, 18), &[])?);
+        }
     }
     // Too short for a device: a new store is made.
-    for size in [0, 1, 17] {
-        assert!(rt; gives(&rt, &WITH_ONE[..size], b"", (1, 2, 18), &[])?);
+    for size in 0..18 {
+        assert!(rt; gives(&rt, &ASKED[..size], b"", (1, 2, 18), &[])?);
     }
+    // Cut within the record, or before its next gate.
+    for size in 18..167 {
+        let cut = OpenFault::Damaged { at: 17 };
+        assert!(rt; refuses(&rt, &ASKED[..size], b"", cut)?);
+    }
+    Ok(())
+}
+
+// Device `a` already passes the limit.
+#[test]
+fn upgrade_from_edition_one(rt: HostRuntime) -> Result<(), Fail> {
+    let mut store = store_of(&rt, FIRST_ASKED, b"")?;
+    let (mut journal, batches) = Journal::recover(rt.alloc(), &mut store, 100)?;
+    assert_eq!(rt; batches.len(), 1);
+    if journal.edition() != 1 {
+        return Err("not of edition 1".into());
+    }
+    assert_eq!(rt; journal.upgrade(rt.alloc(), &mut store, &batches), Ok(()));
+    assert_eq!(rt; journal.edition(), 2);
+    assert_eq!(rt; journal.generation(), 2);
+    assert_eq!(rt; journal.tail(), 167);
+    let mut upgraded = *ASKED;
+    upgraded[16] = 2;
+    assert!(rt; store.b.content() == upgraded.as_slice());
+    assert!(rt; store.a.content() == FIRST_ASKED.as_slice());
     Ok(())
 }
 

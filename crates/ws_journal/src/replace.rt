@@ -35,8 +35,8 @@ pub(crate) fn records_len(batches: &[Bytes]) -> u64
 
 impl Journal {
     ghost use Rattle.ws_journal.specs.declared.journal.Doubt.TheVariants.{Nothing, Device};
-    ghost use Rattle.ws_journal.specs.Stands.{counting, other, Stands, SameJournal};
-    ghost use Rattle.ws_journal.specs.Replaced.{StandsBeside, IsKept, IsNext, KnowsDevice, BesideCrash, CountingCrash, ReadsOlderOrNewer, ReadsLeft, Replaced, Replaces, ReplacesBeside, IsLast, PassesWith, ReplaceFull};
+    ghost use Rattle.ws_journal.specs.Stands.{counting, other, Stands, HasTail};
+    ghost use Rattle.ws_journal.specs.Replaced.{StandsBeside, IsNext, KnowsDevice, BesideCrash, CountingCrash, ReadsOlderOrNewer, ReadsLeft, Replaced, Replaces, ReplacesBeside, IsLast, PassesWith, ReplaceFull};
 
     /// The generation behind this one. Only a disk that isn't honest can have given one that has none.
     fn next_generation(&self) -> u64
@@ -59,14 +59,13 @@ impl Journal {
         requires tail { 17 < tail }
         ensures any_moment { (older : ℕ) → D.honest disk.old → IsSpare older (D.images disk.old (D.moment disk.old))
             → LeavesOnly D.moment D.images disk.old disk.new (IsBelowOrMade older generation batches.now) }
-        ensures made { (older : ℕ) → D.honest disk.old → IsSpare older (D.images disk.old (D.moment disk.old))
-            → OnOk result (Each (D.images disk.new (D.moment disk.new)) (IsMade generation batches.now)) }
+        ensures made { D.honest disk.old → OnOk result (Each (D.images disk.new (D.moment disk.new)) (IsMade generation batches.now)) }
         ensures switched { OnOk result (IsNext side generation tail self.old self.new) }
         ensures failed { (older : ℕ) → D.honest disk.old → IsSpare older (D.images disk.old (D.moment disk.old)) → IsErr result
             → ((self.new ≡ self.old) × IsSpare older (D.images disk.new (D.moment disk.new)))
             ⊎ (KnowsDevice self.old self.new × Each (D.images disk.new (D.moment disk.new)) (IsHalfMade generation batches.now)) }
         ensures done { OnOk result (self.new.edition ≡ Second) }
-        ensures not_done { OnErr result (self.new.edition ≡ self.old.edition) }
+        ensures not_done { OnErr result ((self.new.side ≡ self.old.side) × (self.new.edition ≡ self.old.edition) × (self.new.tail ≡ self.old.tail)) }
         ensures limit { self.new.limit ≡ self.old.limit }
         ensures honesty { D.honest disk.new ↔ D.honest disk.old }
         ensures cause { HasCause (D.faults disk.old) (D.faults disk.new) result }
@@ -101,6 +100,7 @@ impl Journal {
             → BesideCrash D.moment D.images self.old.side store.old store.new (ReadsOlderOrNewer self.old payloads batches.now) }
         ensures replaced { (payloads : List (List ℕ)) → self.old.generation < 2 ^ 63 - 1 → D.honest (other self.old.side store.old) → Stands D.moment D.images self.old store.old payloads None
             → Replaced D.moment D.images self.old self.new store.new payloads batches.now (is_ok result) }
+        ensures reaches { HasTail D.honest D.moment D.images self.old store.old → HasTail D.honest D.moment D.images self.new store.new }
         ensures done { OnOk result (self.new.edition ≡ Second) }
         ensures not_done { OnErr result (self.new.edition ≡ self.old.edition) }
         ensures limit { self.new.limit ≡ self.old.limit }
@@ -122,7 +122,7 @@ impl Journal {
         batches: &[Bytes],
         tail: u64,
     ) -> Result<(), DiskFailed>
-        requires stands { D.honest (counting self.old.side store.old) → IsKept D.moment D.images self.old store.old }
+        requires place { HasTail D.honest D.moment D.images self.old store.old }
         requires batches { All IsPayload batches.now }
         requires room { length (records Second batches.now) < 2 ^ 61 }
         requires tail { tail ≡ 18 + length (records Second batches.now) }
@@ -130,6 +130,7 @@ impl Journal {
             → Stands D.moment D.images self.old store.old payloads doubt → Replaces D.moment D.images self.old self.new store.old store.new payloads doubt batches.now (is_ok result) }
         ensures replaces_beside { (payloads doubted : List (List ℕ)) → D.honest (counting self.old.side store.old) → D.honest (other self.old.side store.old)
             → StandsBeside D.moment D.images self.old store.old payloads doubted → ReplacesBeside D.moment D.images self.old self.new store.old store.new payloads doubted batches.now (is_ok result) }
+        ensures place { HasTail D.honest D.moment D.images self.new store.new }
         ensures done { OnOk result (self.new.edition ≡ Second) }
         ensures not_done { OnErr result (self.new.edition ≡ self.old.edition) }
         ensures limit { self.new.limit ≡ self.old.limit }
@@ -164,7 +165,7 @@ impl Journal {
     ) -> Result<(), AppendFault>
         requires edition { self.old.edition ≡ Second }
         requires batches { All IsPayload batches.now }
-        requires stands { D.honest (counting self.old.side store.old) → IsKept D.moment D.images self.old store.old }
+        requires place { HasTail D.honest D.moment D.images self.old store.old }
         ensures full { ReplaceFull self.old batches.now result }
         ensures untouched { IsLast self.old ⊎ PassesWith self.old batches.now → (store.new ≡ store.old) × (self.new ≡ self.old) }
         // A crash at any moment leaves the batches before it or the new ones, beside what was in doubt until that is closed.
@@ -174,6 +175,7 @@ impl Journal {
         ensures replaces_beside { (payloads doubted : List (List ℕ)) → D.honest (counting self.old.side store.old) → D.honest (other self.old.side store.old)
             → StandsBeside D.moment D.images self.old store.old payloads doubted → (IsLast self.old ⊎ PassesWith self.old batches.now → ⊥)
             → ReplacesBeside D.moment D.images self.old self.new store.old store.new payloads doubted batches.now (is_ok result) }
+        ensures place { HasTail D.honest D.moment D.images self.new store.new }
         ensures memory { result ≢ Err AppendFault.NoMemory }
         ensures same_edition { self.new.edition ≡ Second }
         ensures limit { self.new.limit ≡ self.old.limit }

@@ -1,14 +1,14 @@
 // The devices are written out by hand from the format; the digest is that of Python's hashlib.
-ghost use Rattle.std.specs.Prelude.{◌≡◌, ◌≤◌, ◌<◌, ◌^◌, IfOk};
+ghost use Rattle.std.specs.Prelude.{◌≡◌, ◌≤◌, ◌^◌, IfOk};
+ghost use Rattle.ws_journal.specs.declared.store.Edition.TheVariants.{Second};
 ghost use Rattle.ws_journal.specs.Text.{IsPayload};
-ghost use Rattle.ws_journal.specs.Replaced.{IsRecorded};
 
 use super::*;
 use crate::journal::Doubt;
 use crate::store::Side;
 use std::test::Fail;
 use ws_disk::{Disk, Pick, TornDisk};
-use ws_model::{Bytes, Event, Events, What};
+use ws_model::{Bytes, Event, What};
 use ws_record::{batch_len, write_batch};
 
 // A device of edition 2 and generation 3 without records.
@@ -20,12 +20,6 @@ const REPLACED: &[u8; 86] = b"\x01WEBSUBJ2\x00\x00\x00\x00\x00\x00\x00\x04\
     \x01\x00\x00\x00\x1f\
     \x7f\x2b\xba\x19\xa9\xaf\xaf\x9c\x10\xd2\x76\x1e\x9a\x0a\xf4\x5a\
     \xde\x43\xac\xa4\xe2\xbc\xe2\xf4\x8b\x45\x68\x1b\x26\x94\xa1\xd7\
-    \x00\x00\x00\x01\x00\x00\x00\x00\x00\x00\x00\x09\x00\x00\x00\x00\x00\x00\x03\xe8\
-    \x03\x00\x00\x00\x00\x00\x00\x00\x07\x01\x94\x00";
-
-// A device of edition 1 and generation 3 with that record.
-const FIRST: &[u8; 54] = b"\x01WEBSUBJ1\x00\x00\x00\x00\x00\x00\x00\x03\
-    \x01\x00\x00\x00\x1f\
     \x00\x00\x00\x01\x00\x00\x00\x00\x00\x00\x00\x09\x00\x00\x00\x00\x00\x00\x03\xe8\
     \x03\x00\x00\x00\x00\x00\x00\x00\x07\x01\x94\x00";
 
@@ -55,16 +49,15 @@ fn store(rt: &HostRuntime, a: &[u8], failing: &[u64]) -> Result<Store<TornDisk>,
     })
 }
 
-fn journal_of(edition: Edition, tail: u64, limit: u64) -> Journal
-    requires limit { limit ≤ 2 ^ 30 }
-    requires tail { 17 < tail }
-    ensures { result.edition ≡ edition }
+fn journal_of(limit: u64) -> Journal
+    requires { limit ≤ 2 ^ 30 }
+    ensures { result.edition ≡ Second }
 {
     Journal {
         side: Side::A,
-        edition,
+        edition: Edition::Second,
         generation: 3,
-        tail,
+        tail: 18,
         limit,
         doubt: Doubt::Nothing,
     }
@@ -84,32 +77,6 @@ fn text(rt: &HostRuntime) -> Result<Bytes, Fail>
     Ok(write_batch(rt.alloc(), &events)?)
 }
 
-fn recorded(rt: &HostRuntime) -> Result<Batch, Fail>
-    ensures { IfOk result IsRecorded }
-{
-    let mut events = Events::empty(rt.alloc());
-    events.push(Event {
-        serial: 9,
-        t: 1000,
-        what: What::Declined { n: 7, code: 404 },
-    })?;
-    if batch_len(events.as_slice()) > 16_777_216 {
-        return Err("too long".into());
-    }
-    let _ = write_batch(rt.alloc(), events.as_slice())?;
-    Ok(Batch { at: 17, events })
-}
-
-// Whether a crash leaves the device as one that doesn't count beside generation 3, or whole.
-fn is_older_or_replaced(image: &[u8]) -> bool {
-    if image.len() < 18 {
-        return true;
-    }
-    let torn = image[0] > 1 && image[1..].starts_with(b"WEBSUBJ2");
-    let older = image.starts_with(b"\x01WEBSUBJ2\x00\x00\x00\x00\x00\x00\x00\x02");
-    image[0] == 0 || torn || older || image == REPLACED.as_slice()
-}
-
 fn images_of(rt: &HostRuntime, disk: &TornDisk, pick: Pick, wanted: &[u8]) -> Result<bool, Fail> {
     let image = disk.crashed(rt.alloc(), pick)?;
     Ok(image.content() == wanted)
@@ -119,7 +86,7 @@ fn images_of(rt: &HostRuntime, disk: &TornDisk, pick: Pick, wanted: &[u8]) -> Re
 fn replace_limit_exact(rt: HostRuntime) -> Result<(), Fail> {
     let batches = [text(&rt)?];
     let mut within = store(&rt, EMPTY, &[])?;
-    let mut journal = journal_of(Edition::Second, 18, 86);
+    let mut journal = journal_of(86);
     assert_eq!(rt; journal.replace(&mut within, &batches), Ok(()));
     assert_eq!(rt; journal.tail(), 86);
     assert_eq!(rt; journal.generation(), 4);
@@ -130,32 +97,8 @@ fn replace_limit_exact(rt: HostRuntime) -> Result<(), Fail> {
         tail: 18,
         asked: 68,
     };
-    assert_eq!(rt;
-        journal_of(Edition::Second, 18, 85).replace(&mut past, &batches),
-        Err(full)
-    );
+    assert_eq!(rt; journal_of(85).replace(&mut past, &batches), Err(full));
     assert!(rt; images_of(&rt, &past.b, Pick::New, OLDER)?);
-    Ok(())
-}
-
-#[test]
-fn each_call_of_the_new_device_fails(rt: HostRuntime) -> Result<(), Fail> {
-    let batches = [text(&rt)?];
-    // The calls 0 and 1 of the device are those of `device`, and 17 make it.
-    for failing in 2..19 {
-        let mut torn = store(&rt, EMPTY, &[failing])?;
-        let mut journal = journal_of(Edition::Second, 18, 200);
-        assert_eq!(rt;
-            journal.replace(&mut torn, &batches),
-            Err(AppendFault::Disk)
-        );
-        for pick in PICKS {
-            let image = torn.b.crashed(rt.alloc(), pick)?;
-            assert!(rt; is_older_or_replaced(image.content()));
-        }
-        assert_eq!(rt; journal.replace(&mut torn, &batches), Ok(()));
-        assert!(rt; images_of(&rt, &torn.b, Pick::Old, REPLACED)?);
-    }
     Ok(())
 }
 
@@ -164,7 +107,7 @@ fn device_in_doubt_is_closed_by_append(rt: HostRuntime) -> Result<(), Fail> {
     let batch = text(&rt)?;
     let batches = [text(&rt)?];
     let mut torn = store(&rt, EMPTY, &[18])?;
-    let mut journal = journal_of(Edition::Second, 18, 200);
+    let mut journal = journal_of(200);
     assert_eq!(rt;
         journal.replace(&mut torn, &batches),
         Err(AppendFault::Disk)
@@ -177,18 +120,5 @@ fn device_in_doubt_is_closed_by_append(rt: HostRuntime) -> Result<(), Fail> {
     }
     assert_eq!(rt; journal.generation(), 3);
     assert_eq!(rt; journal.tail(), 86);
-    Ok(())
-}
-
-#[test]
-fn upgrade_passes_the_limit(rt: HostRuntime) -> Result<(), Fail> {
-    let batches = [recorded(&rt)?];
-    let mut first = store(&rt, FIRST, &[])?;
-    let mut journal = journal_of(Edition::First, 54, 60);
-    assert_eq!(rt; journal.upgrade(rt.alloc(), &mut first, &batches), Ok(()));
-    assert!(rt; images_of(&rt, &first.b, Pick::Old, REPLACED)?);
-    assert_eq!(rt; journal.tail(), 86);
-    assert_eq!(rt; journal.edition(), 2);
-    assert_eq!(rt; journal.generation(), 4);
     Ok(())
 }

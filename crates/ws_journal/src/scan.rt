@@ -1,7 +1,8 @@
 // The records of a device, read one by one.
-ghost use Rattle.std.specs.Prelude.{◌≡◌, ◌<◌, ◌+◌, ℕ, List, length, take, drop, IfOk, IfSome, IfNone, Err};
+ghost use Rattle.std.specs.Prelude.{◌≡◌, ◌<◌, ◌≤◌, ◌+◌, ◌^◌, ℕ, List, length, take, drop, All, IfOk, IfSome, IfNone, Err};
 ghost use Rattle.ws_model.specs.Cause.{HasCause, Rose};
 ghost use Rattle.ws_record.specs.Batch.{batch_text, IsBatch};
+ghost use Rattle.ws_journal.specs.Text.{IsRecorded};
 ghost use Rattle.ws_journal.specs.Image.{digest_len};
 ghost use Rattle.ws_journal.specs.Device.{IsStart, FindsWhole, ChecksDigest, IsNoBatch, Checks, FindsRecord, FindsRecords, as_lists};
 ghost use Rattle.ws_journal.specs.Looks.{OnlyReads};
@@ -109,6 +110,7 @@ pub(crate) fn read_bytes<D: Disk>(
     len: usize,
 ) -> Result<Vec<u8>, ReadBack>
     ensures bytes { IfOk result (λ bytes. D.honest disk.old → bytes.items ≡ take len (drop at (D.seen disk.old))) }
+    ensures count { IfOk result (λ bytes. length bytes.items ≤ len) }
     ensures reads { OnlyReads D.honest D.seen D.moment D.images D.faults disk.old disk.new }
     ensures cause { result ≡ Err ReadBack.Disk → Rose (D.faults disk.old) (D.faults disk.new) }
 {
@@ -129,6 +131,7 @@ fn read_whole<D: Disk>(
     requires { at < size }
     ensures whole { D.honest disk.old → size ≡ length (D.seen disk.old) → FindsWhole edition at (D.seen disk.old) result }
     ensures next { IfOk result (λ found. IfSome found (λ whole. (at < whole.next) × (whole.next < size))) }
+    ensures short { IfOk result (λ found. IfSome found (λ whole. length whole.payload.items < 2 ^ 32)) }
     ensures reads { OnlyReads D.honest D.seen D.moment D.images D.faults disk.old disk.new }
     ensures cause { result ≡ Err OpenFault.Disk → Rose (D.faults disk.old) (D.faults disk.new) }
 {
@@ -215,6 +218,8 @@ fn read_record<D: Disk>(
     requires { at < size }
     ensures record { D.honest disk.old → size ≡ length (D.seen disk.old) → FindsRecord edition at (D.seen disk.old) result }
     ensures next { IfOk result (λ found. IfSome found (λ one. (at < one.next) × (one.next < size))) }
+    ensures batch { IfOk result (λ found. IfSome found (λ one. IsBatch one.events)) }
+    ensures short { IfOk result (λ found. IfSome found (λ one. length (batch_text one.events) < 2 ^ 32)) }
     ensures reads { OnlyReads D.honest D.seen D.moment D.images D.faults disk.old disk.new }
     ensures cause { result ≡ Err OpenFault.Disk → Rose (D.faults disk.old) (D.faults disk.new) }
 {
@@ -241,7 +246,9 @@ pub(crate) fn read_records<D: Disk>(
 ) -> Result<(Vec<Batch>, u64), OpenFault>
     requires { 17 < size }
     ensures records { D.honest disk.old → size ≡ length (D.seen disk.old) → FindsRecords edition (drop 17 (D.seen disk.old)) (as_lists result) }
+    ensures recorded { IfOk result (λ read. All IsRecorded read.0.items) }
     ensures tail { IfOk result (λ read. 17 < read.1) }
+    ensures within { IfOk result (λ read. read.1 ≤ size) }
     ensures reads { OnlyReads D.honest D.seen D.moment D.images D.faults disk.old disk.new }
     ensures cause { result ≡ Err OpenFault.Disk → Rose (D.faults disk.old) (D.faults disk.new) }
 {

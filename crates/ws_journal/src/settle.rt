@@ -13,8 +13,8 @@ use ws_disk::{Disk, DiskFailed};
 
 impl Journal {
     ghost use Rattle.ws_journal.specs.declared.journal.Doubt.TheVariants.{Nothing, Batch, Device};
-    ghost use Rattle.ws_journal.specs.Stands.{counting, other, Stands, SameJournal};
-    ghost use Rattle.ws_journal.specs.Replaced.{StandsBeside, IsKept, BesideCrash, CountingCrash, ReadsOlderOrNewer, ReadsLeft, ClosedBatch, ClosedDevice};
+    ghost use Rattle.ws_journal.specs.Stands.{counting, other, Stands, HasTail, SameJournal};
+    ghost use Rattle.ws_journal.specs.Replaced.{StandsBeside, BesideCrash, CountingCrash, ReadsOlderOrNewer, ReadsLeft, ClosedBatch, ClosedDevice};
 
     /// Closes the gate of a device that is in doubt.
     fn close_device<D: Disk>(&mut self, disk: &mut D) -> Result<(), DiskFailed>
@@ -61,6 +61,7 @@ impl Journal {
             → CountingCrash D.moment D.images self.old.side store.old store.new (ReadsLeft self.old payloads doubt) }
         ensures closes { (payloads : List (List ℕ)) (doubt : Option (List ℕ)) → D.honest (counting self.old.side store.old) → Stands D.moment D.images self.old store.old payloads doubt
             → ClosedBatch D.moment D.images self.new store.new payloads doubt result }
+        ensures reaches { HasTail D.honest D.moment D.images self.old store.old → HasTail D.honest D.moment D.images self.new store.new }
         ensures same { SameJournal self.old self.new }
         ensures untouched { other self.old.side store.new ≡ other self.old.side store.old }
         ensures honesty { D.honest (counting self.old.side store.new) ↔ D.honest (counting self.old.side store.old) }

@@ -117,3 +117,21 @@ fn second_sync_fails_then_accepted(rt: HostRuntime) -> Result<(), Fail> {
     assert_eq!(rt; journal.edition(), 2);
     Ok(())
 }
+
+#[test]
+fn torn_images_at_second_gate_write(rt: HostRuntime) -> Result<(), Fail> {
+    // The call 8 closes the gate in doubt, 14 writes it again, and 15 confirms that.
+    let mut failing = store(&rt, &[7, 15])?;
+    let mut journal = journal_of(200);
+    let first = append_one(&rt, &mut journal, &mut failing)?;
+    let second = append_one(&rt, &mut journal, &mut failing)?;
+    assert_eq!(rt;
+        (first, second),
+        (Err(AppendFault::Disk), Err(AppendFault::Disk))
+    );
+    let mut closed = *WITH_ONE;
+    closed[17] = 0;
+    assert!(rt; image_is(&rt, &failing, Pick::Old, &closed)?);
+    assert!(rt; image_is(&rt, &failing, Pick::New, WITH_ONE)?);
+    Ok(())
+}

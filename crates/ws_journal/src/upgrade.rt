@@ -2,7 +2,7 @@
 ghost use Rattle.std.specs.Prelude.{◌≡◌, ◌≢◌, ◌≤◌, ◌+◌, ◌-◌, ◌^◌, ◌<◌, ◌↔◌, ◌⊎◌, List, ℕ, length, All, None, Ok, Err, OnOk, OnErr, IfOk, IsErr, is_ok};
 ghost use Rattle.ws_model.specs.Cause.{Rose};
 ghost use Rattle.ws_journal.specs.declared.store.Edition.TheVariants.{First, Second};
-ghost use Rattle.ws_journal.specs.Replaced.{IsRecorded, texts};
+ghost use Rattle.ws_journal.specs.Text.{IsRecorded, texts};
 
 use crate::journal::Journal;
 use crate::replace::{EMPTY_TAIL, records_len};
@@ -61,7 +61,7 @@ fn batch_texts(alloc: Global, batches: &[Batch]) -> Result<Vec<Bytes>, NoMemory>
 }
 
 impl Journal {
-    ghost use Rattle.ws_journal.specs.Stands.{counting, other, Stands};
+    ghost use Rattle.ws_journal.specs.Stands.{counting, other, Stands, HasTail};
     ghost use Rattle.ws_journal.specs.Replaced.{StandsBeside, Replaces, ReplacesBeside};
 
     /// Upgrades a journal of edition 1: it writes these batches to the other device as edition 2, with the
@@ -82,8 +82,7 @@ impl Journal {
     ) -> Result<(), UpgradeFault>
         requires edition { self.old.edition ≡ First }
         requires batches { All IsRecorded batches.now }
-        requires stands { D.honest (counting self.old.side store.old) → Stands D.moment D.images self.old store.old (texts batches.now) None
-            ⊎ StandsBeside D.moment D.images self.old store.old (texts batches.now) (texts batches.now) }
+        requires place { HasTail D.honest D.moment D.images self.old store.old }
         ensures memory { result ≡ Err UpgradeFault.NoMemory → (store.new ≡ store.old) × (self.new ≡ self.old) }
         // Each image during the call reads as the same batches, of one edition or the other.
         ensures upgrades { result ≢ Err UpgradeFault.NoMemory → D.honest (counting self.old.side store.old) → D.honest (other self.old.side store.old)
@@ -92,6 +91,7 @@ impl Journal {
         ensures upgrades_beside { result ≢ Err UpgradeFault.NoMemory → D.honest (counting self.old.side store.old) → D.honest (other self.old.side store.old)
             → StandsBeside D.moment D.images self.old store.old (texts batches.now) (texts batches.now)
             → ReplacesBeside D.moment D.images self.old self.new store.old store.new (texts batches.now) (texts batches.now) (texts batches.now) (is_ok result) }
+        ensures place { HasTail D.honest D.moment D.images self.new store.new }
         ensures done { OnOk result (self.new.edition ≡ Second) }
         ensures not_done { OnErr result (self.new.edition ≡ First) }
         ensures limit { self.new.limit ≡ self.old.limit }

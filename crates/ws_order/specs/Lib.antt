@@ -1,3 +1,6 @@
+pub mod Orders
+pub mod NumberOrder
 pub mod NextTries
+pub mod NextTryOrder
 pub mod Trees
 pub mod TreeFalls

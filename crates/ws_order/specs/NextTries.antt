@@ -1,9 +1,10 @@
 -- Next tries, their order, and which of them is made first (own).
-use Rattle.std.specs.Prelude.{◌≡◌, ℕ, Bool, true, false, not, ◌&&◌, ◌||◌, List, [], ◌∷◌, ◌++◌, nat_lt, nat_le, ◌==◌}
-use Rattle.std.specs.List.{AllByRecursion, list_any}
+use Rattle.std.specs.Prelude.{ℕ, Bool, not, ◌&&◌, ◌||◌, List, nat_lt, nat_le, ◌==◌}
+use Rattle.std.specs.List.{list_any}
 use Rattle.ws_model.specs.declared.work.Work.{Work}
 use Rattle.ws_model.specs.declared.work.Work.TheVariants.{Push}
 use Rattle.ws_model.specs.Due.{same_work}
+use Rattle.ws_order.specs.Orders.{has_key, Rises}
 use Rattle.ws_order.specs.declared.next_try.NextTry.{NextTry}
 
 -- by time, version, lease, and last by the lease's end, which those of one lease share
@@ -20,12 +21,11 @@ abbrev pub same : NextTry → NextTry → Bool
 same x y = (x.at == y.at) && ((x.ver == y.ver) && ((x.lease == y.lease) && (x.exp == y.exp)))
 
 abbrev pub has : NextTry → List NextTry → Bool
-has x xs = list_any (same x) xs
+has x xs = has_key same x xs
 
 -- each stands before all later ones
 abbrev pub IsRising : List NextTry → Type 0
-IsRising [] = Unit {0}
-IsRising (x ∷ xs) = AllByRecursion (λ y. before x y ≡ true) xs × IsRising xs
+IsRising xs = Rises before xs
 
 abbrev pub is_push_work : ℕ → ℕ → Work → Bool
 is_push_work v n w = same_work (Push v n) w
@@ -37,8 +37,3 @@ is_out_push out v n = list_any (is_push_work v n) out
 -- its time has come, its lease hasn't ended, and no ticket for it is out
 abbrev pub is_ready : ℕ → List Work → NextTry → Bool
 is_ready t out x = nat_le x.at t && (nat_lt t x.exp && not (is_out_push out x.ver x.lease))
-
--- what stands before and behind one member
-pub record IsParted (all left : List NextTry) (top : NextTry) (right : List NextTry) : Type 0 where
-  pub is : all ≡ left ++ top ∷ right
-  pub rising : IsRising all

@@ -1,62 +1,61 @@
-// The set as a search tree. Each member has a rank that is drawn from its numbers, and a new member is
-// put above those of a lower rank, so that the tree is expected to stay shallow. No contract speaks of
-// ranks: they are for speed alone.
+// The set as a search tree. Each member has a rank, which is its spread, and a new member is put above
+// those of a lower rank, so that the tree is expected to stay shallow. No contract speaks of ranks: they
+// are for speed alone.
 ghost use Rattle.std.specs.Prelude.{◌≡◌, true, false, not, filter, find, is_some, [], ◌∷◌, ◌++◌, MatchOption};
 ghost use Rattle.std.specs.List.{AllByRecursion};
 ghost use Rattle.ws_model.specs.Due.{place};
-ghost use Rattle.ws_order.specs.NextTries.{before, same, has, is_ready, IsRising, IsParted};
+ghost use Rattle.ws_order.specs.Orders.{has_key, IsParted, Rises};
 
-use crate::NextTry;
+use crate::key::{Key, Sought};
 use std::alloc::Global;
 use std::marker::Model;
 use std::mem;
-use ws_model::{Held, NoMemory};
+use ws_model::NoMemory;
 
-/// Next tries in their order: by time, version, lease. A contract sees them as a list.
+/// Keys in their order. A contract sees them as a list.
 #[cycle(order)]
 #[derive(Drop)]
-pub struct Order {
-    node: Node,
+pub struct Order<K: Key> {
+    node: Node<K>,
 }
 
 #[cycle(order)]
 #[derive(Drop)]
-enum Node {
+enum Node<K: Key> {
     Leaf,
     // What stands before, the rank, the member, what stands behind.
-    Fork(Box<Order>, u64, NextTry, Box<Order>),
+    Fork(Box<Order<K>>, u64, K, Box<Order<K>>),
 }
 
-impl Model for Order {
+impl<K: Key> Model for Order<K> {
     ghost use Rattle.std.specs.Prelude.{List, length};
-    ghost use Rattle.ws_order.specs.declared.next_try.NextTry.{NextTry};
 
-    ghost Value = { List NextTry };
+    ghost Value = { List K };
 
-    ghost use Rattle.ws_order.specs.NextTries.{IsRising};
+    ghost use Rattle.ws_order.specs.Orders.{Rises};
     ghost use Rattle.ws_order.specs.Trees.{members};
 
     ghost view = { λ a. members a.node };
 
-    ghost invariant = { λ a. IsRising (members a.node) };
+    ghost invariant = { λ a. Rises K.before (members a.node) };
 
     ghost size = { length };
 
     ghost use Rattle.ws_order.specs.TreeFalls.{depth_le-length-members};
 
-    ghost size_decreases = { λ a h. depth_le-length-members a.node };
+    ghost size_decreases = { λ a h. depth_le-length-members (record { before = K.before; same = K.same }) a.node };
 }
 
 /// Room for one more member.
 #[derive(Drop)]
-pub struct Room {
-    left: Box<Order>,
-    right: Box<Order>,
+pub struct Room<K: Key> {
+    left: Box<Order<K>>,
+    right: Box<Order<K>>,
 }
 
-impl Room {
+impl<K: Key> Room<K> {
     /// Takes memory for one more member.
-    pub fn new(alloc: Global) -> Result<Room, NoMemory> {
+    pub fn new(alloc: Global) -> Result<Room<K>, NoMemory> {
         let left = Box::new(alloc, Order::empty())?;
         let right = Box::new(alloc, Order::empty())?;
         Ok(Room { left, right })
@@ -64,34 +63,41 @@ impl Room {
 }
 
 /// The top of a tree and its sides.
-struct Sides {
-    left: Box<Order>,
+struct Sides<K: Key> {
+    left: Box<Order<K>>,
     rank: u64,
-    top: NextTry,
-    right: Box<Order>,
+    top: K,
+    right: Box<Order<K>>,
 }
 
-impl Order {
+/// The first member, its room, and the others.
+struct First<K: Key> {
+    member: K,
+    room: Room<K>,
+    others: Order<K>,
+}
+
+impl<K: Key> Order<K> {
     /// No member. It takes no memory.
-    pub fn empty() -> Order
+    pub fn empty() -> Order<K>
         ensures { result ≡ [] }
     {
         Order { node: Node::Leaf }
     }
 
     /// Puts a new member in its place. It takes no memory.
-    pub fn put(&mut self, new: NextTry, room: Room)
-        requires { has new self.old ≡ false }
-        ensures { self.new ≡ place before new self.old }
+    pub fn put(&mut self, new: K, room: Room<K>)
+        requires { has_key K.same new self.old ≡ false }
+        ensures { self.new ≡ place K.before new self.old }
     {
         let all = mem::replace(self, Order::empty());
-        *self = all.with(new, rank(&new), room);
+        *self = all.with(new, new.spread(), room);
     }
 
     /// Takes a member out and gives its room, where it is one. It takes no memory.
-    pub fn take(&mut self, member: &NextTry) -> Option<Room>
-        ensures found { is_some result ≡ has member.now self.old }
-        ensures left { self.new ≡ filter (λ x. not (same member.now x)) self.old }
+    pub fn take(&mut self, member: &K) -> Option<Room<K>>
+        ensures found { is_some result ≡ has_key K.same member.now self.old }
+        ensures left { self.new ≡ filter (λ x. not (K.same member.now x)) self.old }
     {
         let all = mem::replace(self, Order::empty());
         let (rest, room) = all.without(member);
@@ -99,40 +105,60 @@ impl Order {
         room
     }
 
-    /// The first member that is ready at `t`. Those before it whose ticket is out or whose lease has
-    /// ended are passed over one by one; those whose time hasn't come aren't looked at.
-    pub fn first_ready(&self, t: u64, held: &Held) -> Option<NextTry>
-        ensures first { result ≡ find (is_ready t held.now) self.now }
-        ensures rising { IsRising self.now }
-    {
-        // The tree is opened, so that the caller knows its order.
-        let _node = &self.node;
-        self.found_ready(t, held)
-    }
-
-    fn found_ready(&self, t: u64, held: &Held) -> Option<NextTry>
-        ensures { result ≡ find (is_ready t held.now) self.now }
+    /// Whether it is a member.
+    pub fn contains(&self, member: &K) -> bool
+        ensures { result ≡ has_key K.same member.now self.now }
     {
         match &self.node {
-            Node::Leaf => None,
+            Node::Leaf => false,
             Node::Fork(left, _, top, right) => {
-                if let Some(found) = left.found_ready(t, held) {
-                    return Some(found);
+                if member.is_before(top) {
+                    left.contains(member)
+                } else if top.is_before(member) {
+                    right.contains(member)
+                } else {
+                    true
                 }
-                if top.is_ready(t, held) {
-                    return Some(*top);
-                }
-                if top.at > t {
-                    return None;
-                }
-                right.found_ready(t, held)
             }
         }
     }
 
-    fn with(self, new: NextTry, rank: u64, room: Room) -> Order
-        requires { has new self ≡ false }
-        ensures { result ≡ place before new self }
+    /// The first member that is wanted. Those before it are passed over one by one; those behind one that
+    /// is past aren't looked at.
+    pub fn first<S: Sought<K>>(&self, sought: &S) -> Option<K>
+        requires past { (x y : K) → S.past sought.now x ≡ true → K.before x y ≡ true → S.wanted sought.now y ≡ false }
+        ensures first { result ≡ find (S.wanted sought.now) self.now }
+        ensures rising { Rises K.before self.now }
+    {
+        // The tree is opened, so that the caller knows its order.
+        let _node = &self.node;
+        self.found(sought)
+    }
+
+    fn found<S: Sought<K>>(&self, sought: &S) -> Option<K>
+        requires past { (x y : K) → S.past sought.now x ≡ true → K.before x y ≡ true → S.wanted sought.now y ≡ false }
+        ensures { result ≡ find (S.wanted sought.now) self.now }
+    {
+        match &self.node {
+            Node::Leaf => None,
+            Node::Fork(left, _, top, right) => {
+                if let Some(found) = left.found(sought) {
+                    return Some(found);
+                }
+                if sought.is_wanted(top) {
+                    return Some(*top);
+                }
+                if sought.is_past(top) {
+                    return None;
+                }
+                right.found(sought)
+            }
+        }
+    }
+
+    fn with(self, new: K, rank: u64, room: Room<K>) -> Order<K>
+        requires { has_key K.same new self ≡ false }
+        ensures { result ≡ place K.before new self }
     {
         match self.opened() {
             None => Order::empty().with_on_top(new, rank, room),
@@ -160,9 +186,9 @@ impl Order {
         }
     }
 
-    fn with_on_top(self, new: NextTry, rank: u64, room: Room) -> Order
-        requires { has new self ≡ false }
-        ensures { result ≡ place before new self }
+    fn with_on_top(self, new: K, rank: u64, room: Room<K>) -> Order<K>
+        requires { has_key K.same new self ≡ false }
+        ensures { result ≡ place K.before new self }
     {
         let (low, high) = self.split(&new);
         let Room { left, right } = room;
@@ -170,11 +196,11 @@ impl Order {
     }
 
     /// The members before a given one, and the others.
-    fn split(self, place: &NextTry) -> (Order, Order)
+    fn split(self, place: &K) -> (Order<K>, Order<K>)
         ensures all { self ≡ result.0 ++ result.1 }
-        ensures low { AllByRecursion (λ x. before x place.now ≡ true) result.0 }
-        ensures high { AllByRecursion (λ x. before x place.now ≡ false) result.1 }
-        ensures rising { IsRising (result.0 ++ result.1) }
+        ensures low { AllByRecursion (λ x. K.before x place.now ≡ true) result.0 }
+        ensures high { AllByRecursion (λ x. K.before x place.now ≡ false) result.1 }
+        ensures rising { Rises K.before (result.0 ++ result.1) }
     {
         match self.opened() {
             None => (Order::empty(), Order::empty()),
@@ -200,9 +226,9 @@ impl Order {
     }
 
     /// The others than a given member, and its room, where it is one.
-    fn without(self, member: &NextTry) -> (Order, Option<Room>)
-        ensures found { is_some result.1 ≡ has member.now self }
-        ensures left { result.0 ≡ filter (λ x. not (same member.now x)) self }
+    fn without(self, member: &K) -> (Order<K>, Option<Room<K>>)
+        ensures found { is_some result.1 ≡ has_key K.same member.now self }
+        ensures left { result.0 ≡ filter (λ x. not (K.same member.now x)) self }
     {
         match self.opened() {
             None => (Order::empty(), None),
@@ -230,8 +256,8 @@ impl Order {
         }
     }
 
-    fn opened(self) -> Option<Sides>
-        ensures { MatchOption result (self ≡ []) (λ at. IsParted self at.left.value at.top at.right.value) }
+    fn opened(self) -> Option<Sides<K>>
+        ensures { MatchOption result (self ≡ []) (λ at. IsParted K.before self at.left.value at.top at.right.value) }
     {
         match self.node {
             Node::Leaf => None,
@@ -244,29 +270,50 @@ impl Order {
         }
     }
 
-    /// Takes the first member out, with its room.
-    fn pop_first(&mut self) -> Option<(NextTry, Room)>
-        ensures { MatchOption result (self.old ≡ [] × self.new ≡ []) (λ p. self.old ≡ p.0 ∷ self.new) }
+    /// The first member, its room, and the others.
+    fn without_first(self) -> Option<First<K>>
+        ensures { MatchOption result (self ≡ []) (λ first. self ≡ first.member ∷ first.others) }
     {
-        match mem::replace(&mut self.node, Node::Leaf) {
-            Node::Leaf => None,
-            Node::Fork(mut left, rank, top, mut right) => match left.pop_first() {
-                Some(first) => {
-                    self.node = Node::Fork(left, rank, top, right);
-                    Some(first)
+        match self.opened() {
+            None => None,
+            Some(
+                Sides {
+                    left,
+                    rank,
+                    top,
+                    right,
+                },
+            ) => {
+                let (front, empty) = unboxed(left);
+                match front.without_first() {
+                    Some(
+                        First {
+                            member,
+                            room,
+                            others,
+                        },
+                    ) => Some(First {
+                        member,
+                        room,
+                        others: fork(boxed(empty, others), rank, top, right),
+                    }),
+                    None => {
+                        let (others, right) = unboxed(right);
+                        Some(First {
+                            member: top,
+                            room: Room { left: empty, right },
+                            others,
+                        })
+                    }
                 }
-                None => {
-                    *self = mem::replace(&mut *right, Order::empty());
-                    Some((top, Room { left, right }))
-                }
-            },
+            }
         }
     }
 }
 
 /// A member between two sides.
-fn fork(left: Box<Order>, rank: u64, top: NextTry, right: Box<Order>) -> Order
-    requires { IsRising (left.value ++ top ∷ right.value) }
+fn fork<K: Key>(left: Box<Order<K>>, rank: u64, top: K, right: Box<Order<K>>) -> Order<K>
+    requires { Rises K.before (left.value ++ top ∷ right.value) }
     ensures { result ≡ left.value ++ top ∷ right.value }
 {
     Order {
@@ -275,7 +322,7 @@ fn fork(left: Box<Order>, rank: u64, top: NextTry, right: Box<Order>) -> Order
 }
 
 /// What a box has, and the box.
-fn unboxed(mut from: Box<Order>) -> (Order, Box<Order>)
+fn unboxed<K: Key>(mut from: Box<Order<K>>) -> (Order<K>, Box<Order<K>>)
     ensures { result.0 ≡ from.value }
 {
     let order = mem::replace(&mut *from, Order::empty());
@@ -283,7 +330,7 @@ fn unboxed(mut from: Box<Order>) -> (Order, Box<Order>)
 }
 
 /// A box that has this.
-fn boxed(mut into: Box<Order>, order: Order) -> Box<Order>
+fn boxed<K: Key>(mut into: Box<Order<K>>, order: Order<K>) -> Box<Order<K>>
     ensures { result.value ≡ order }
 {
     *into = order;
@@ -291,24 +338,22 @@ fn boxed(mut into: Box<Order>, order: Order) -> Box<Order>
 }
 
 /// Two sides without what stood between them, and the room of that.
-fn joined(left: Box<Order>, rank: u64, right: Box<Order>) -> (Order, Room)
-    requires { IsRising (left.value ++ right.value) }
+fn joined<K: Key>(left: Box<Order<K>>, rank: u64, right: Box<Order<K>>) -> (Order<K>, Room<K>)
+    requires { Rises K.before (left.value ++ right.value) }
     ensures { result.0 ≡ left.value ++ right.value }
 {
-    let mut right = right;
-    match right.pop_first() {
-        Some((first, room)) => (fork(left, rank, first, right), room),
+    let (behind, right) = unboxed(right);
+    match behind.without_first() {
+        Some(
+            First {
+                member,
+                room,
+                others,
+            },
+        ) => (fork(left, rank, member, boxed(right, others)), room),
         None => {
             let (all, left) = unboxed(left);
             (all, Room { left, right })
         }
     }
-}
-
-/// A number that is spread evenly over the members.
-fn rank(of: &NextTry) -> u64 {
-    let mixed = of.lease.wrapping_mul(0x9e37_79b9_7f4a_7c15)
-        ^ of.ver.wrapping_mul(0xc2b2_ae3d_27d4_eb4f)
-        ^ of.at.wrapping_mul(0x1656_67b1_9e37_79f9);
-    (mixed ^ (mixed >> 32)).wrapping_mul(0xd6e8_feb8_6659_fd93)
 }

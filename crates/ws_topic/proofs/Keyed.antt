@@ -104,7 +104,7 @@ ascending (e ∷ es) s = (all_bytes e.0 es (sorted_head by_items e.0 (keys_of es
 less_than : (a b : List ℕ) → slice_cmp nat_cmp a b ≡ Less → is_eq (slice_cmp nat_cmp b a) ≡ false
 less_than a b e = ap is_eq (nat_list_cmp_total.antisymm b a ∙ ap ordering_reverse e)
 
-at_itself : (a : List ℕ) → is_eq (slice_cmp nat_cmp a a) ≡ true
+pub at_itself : (a : List ℕ) → is_eq (slice_cmp nat_cmp a a) ≡ true
 at_itself a = is_eq-slice_cmp a a ∙ bytes_itself a
 
 module _ {X : Type 0} where

@@ -5,3 +5,5 @@ pub mod Changes
 pub mod Asking
 pub mod Stores
 pub mod Literal
+pub mod Keeping
+pub mod Restoring

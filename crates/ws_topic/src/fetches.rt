@@ -7,10 +7,11 @@ ghost use Rattle.ws_model.specs.Due.{is_out, same_work};
 ghost use Rattle.ws_model.specs.declared.work.Work.TheVariants.{Fetch};
 ghost use Rattle.ws_topic.specs.ByTopic.{IsAscending, at_topic, by_bytes, with_topic, without_topic};
 ghost use Rattle.ws_topic.specs.Rows.{after_answer, after_miss, answered, is_answered, is_last, missed};
+ghost use Rattle.ws_topic.specs.Restored.{restored, with_ping};
 ghost use Rattle.ws_topic.specs.Stored.{IsListed};
 
 use crate::by_topic::{self, ByTopic, copied};
-use crate::rows::OwedFetch;
+use crate::rows::{LastPing, OwedFetch};
 use std::alloc::Global;
 use std::collections::BTreeMap;
 use std::marker::Model;
@@ -102,6 +103,17 @@ impl Fetches {
         }
     }
 
+    /// Puts the fetch of a topic back to what it was, or takes it out where it wasn't owed. A topic whose
+    /// fetch isn't owed changes nothing.
+    pub fn restore(&mut self, topic: &[u8], before: Option<LastPing>)
+        ensures rows { self.new ≡ restored topic.now before self.old }
+    {
+        match before {
+            Some(ping) => set_ping(&mut self.by_topic, topic, ping),
+            None => by_topic::remove(&mut self.by_topic, topic),
+        }
+    }
+
     /// The first topic whose fetch isn't held.
     pub fn first_due(&self, held: &Held) -> Option<&Key>
         ensures first { option_map (λ k. k.now) result ≡ find (λ t. not (is_out held.now (Fetch t 0))) (keys_of self.now) }
@@ -143,6 +155,17 @@ fn miss_more(by_topic: &mut ByFetch, topic: &[u8])
 {
     if let Some(fetch) = by_topic.get_mut(topic) {
         fetch.missed += 1;
+    }
+}
+
+fn set_ping(by_topic: &mut ByFetch, topic: &[u8], ping: LastPing)
+    ensures entries { by_bytes by_topic.new.entries ≡ restored topic.now (Some ping) (by_bytes by_topic.old.entries) }
+    ensures rows { (q : List ℕ) → at_topic q (by_bytes by_topic.new.entries) ≡ cond (bytes_eq q topic.now) (option_map (with_ping ping) (at_topic topic.now (by_bytes by_topic.old.entries))) (at_topic q (by_bytes by_topic.old.entries)) }
+    ensures ordered { IsAscending (keys_of (by_bytes by_topic.new.entries)) }
+{
+    if let Some(fetch) = by_topic.get_mut(topic) {
+        fetch.serial = ping.serial;
+        fetch.missed = ping.missed;
     }
 }
 

@@ -1,6 +1,7 @@
 //! The table of topics: their latest and kept versions, and the fetches that are owed.
 #![tactic(auto)]
 
+mod besides;
 mod by_topic;
 mod fetches;
 pub mod laws;
@@ -8,7 +9,7 @@ mod rows;
 mod table;
 mod versions;
 
-pub use rows::OwedFetch;
+pub use rows::{LastPing, OwedFetch};
 pub use table::Topics;
 
 #[cfg(test)]

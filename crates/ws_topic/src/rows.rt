@@ -8,3 +8,10 @@ pub struct OwedFetch {
     pub serial: u64,
     pub missed: u8,
 }
+
+/// The latest ping of a topic whose fetch is owed: its serial, and how many fetches were missed since.
+#[derive(Clone, Copy, Debug, PartialEq, Eq)]
+pub struct LastPing {
+    pub serial: u64,
+    pub missed: u8,
+}

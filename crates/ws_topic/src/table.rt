@@ -2,7 +2,9 @@
 ghost use Rattle.std.specs.Prelude.{◌≡◌, ◌∷◌, [], not, ℕ, List, OnOk, OnErr, IfSome, Some, None, find, length, option_map, cond, ◌==◌, ◌&&◌, bytes_eq};
 ghost use Rattle.std.specs.Option.{option_copied};
 ghost use Rattle.std.specs.List.{sum_by};
+ghost use Rattle.std.specs.List.Sorted.{IsStrictlySortedBy};
 ghost use Rattle.std.specs.Map.{keys_of, values_of};
+ghost use Rattle.std.specs.Ordering.{nat_cmp};
 ghost use Rattle.ws_model.specs.declared.event.Event.{Event};
 ghost use Rattle.ws_model.specs.declared.event.Tally.{Tally};
 ghost use Rattle.ws_model.specs.declared.event.What.TheVariants.{Fetched, Pinged, Same, Unfetched, Tally as TallyOf};
@@ -11,14 +13,18 @@ ghost use Rattle.ws_model.specs.Due.{due_fetches, is_out};
 ghost use Rattle.ws_model.specs.Legal.{Legal};
 ghost use Rattle.ws_model.specs.Moment.{serial};
 ghost use Rattle.ws_model.specs.Versions.{fetches, latest, latest_of, versions};
+ghost use Rattle.ws_topic.specs.Besides.{bodies_besides};
 ghost use Rattle.ws_topic.specs.ByTopic.{at_topic, with_topic};
 ghost use Rattle.ws_topic.specs.Rows.{Rows, number_at, with_row, size, may_forget, answered, missed, after_answer, after_miss, without_version, kept_of};
+ghost use Rattle.ws_topic.specs.Restored.{last_ping, pinged_rows, restored, with_fetches};
 ghost use Rattle.ws_topic.specs.Stands.{StandsFor, version_number};
+ghost use Rattle.ws_topic.specs.Stored.{IsListed};
 
 use crate::fetches::Fetches;
-use crate::rows::OwedFetch;
+use crate::rows::{LastPing, OwedFetch};
 use crate::versions::Versions;
 use std::alloc::Global;
+use std::collections::BTreeSet;
 use std::marker::Model;
 use ws_model::{Bytes, Held, Key, NoMemory, Version};
 
@@ -61,6 +67,30 @@ impl Topics {
         ensures err { OnErr result (self.new ≡ self.old) }
     {
         self.fetches.ping(topic, serial)
+    }
+
+    /// The latest ping of a topic whose fetch is owed.
+    pub fn last_ping(&self, topic: &[u8]) -> Option<LastPing>
+        ensures ping { result ≡ last_ping topic.now self.now }
+        ensures listed { IsListed self.now.fetches }
+    {
+        // How the fetches are held is known from their number.
+        let _ = self.fetches.count();
+        let fetch = self.fetches.get(topic)?;
+        Some(LastPing {
+            serial: fetch.serial,
+            missed: fetch.missed,
+        })
+    }
+
+    /// Takes a ping of a topic back: its fetch is owed from the ping before on, with the fetches that were
+    /// missed since then, or not owed where there was none. It takes no memory. A topic whose fetch isn't
+    /// owed changes nothing.
+    pub fn restore(&mut self, topic: &[u8], before: Option<LastPing>)
+        ensures rows { self.new ≡ with_fetches (restored topic.now before self.old.fetches) self.old }
+        ensures undoes { (rows : Rows) (serial : ℕ) → IsListed rows.fetches → before ≡ last_ping topic.now rows → self.old ≡ pinged_rows topic.now serial rows → self.new ≡ rows }
+    {
+        self.fetches.restore(topic, before);
     }
 
     /// Adds a version, which is the latest of its topic then and settles the fetch of a ping that isn't
@@ -159,8 +189,18 @@ impl Topics {
 
     /// How many bytes the bodies of the kept versions have.
     pub fn bodies(&self) -> u64
-        ensures { result ≡ sum_by size (values_of self.now.versions) }
+        ensures bodies { result ≡ sum_by size (values_of self.now.versions) }
+        ensures ordered { IsStrictlySortedBy nat_cmp (keys_of self.now.versions) }
     {
         self.versions.bodies()
+    }
+
+    /// How many bytes the bodies have of the kept versions whose numbers are among these, or that are
+    /// the latest of another topic. It goes over all kept versions.
+    pub fn bodies_besides(&self, topic: &[u8], among: &BTreeSet<u64>) -> u64
+        ensures bodies { result ≡ bodies_besides topic.now among.now self.now.latest self.now.versions }
+        ensures ordered { IsStrictlySortedBy nat_cmp (keys_of self.now.versions) }
+    {
+        self.versions.bodies_besides(topic, among)
     }
 }

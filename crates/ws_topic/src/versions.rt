@@ -2,16 +2,19 @@
 ghost use Rattle.std.specs.Prelude.{◌≡◌, ◌≤◌, ◌+◌, ◌&&◌, [], ℕ, List, OnOk, OnErr, IfOk, Some, None, false, length, cond, ◌==◌, bytes_eq};
 ghost use Rattle.std.specs.Option.{option_copied};
 ghost use Rattle.std.specs.List.{sum_by};
+ghost use Rattle.std.specs.List.Sorted.{IsStrictlySortedBy};
 ghost use Rattle.std.specs.Map.{keys_of, values_of};
 ghost use Rattle.std.specs.BTreeMap.{IsOrdered, IsUnchanged, get};
 ghost use Rattle.std.specs.Ordering.{nat_cmp};
+ghost use Rattle.ws_topic.specs.Besides.{bodies_besides};
 ghost use Rattle.ws_topic.specs.ByTopic.{IsAscending, at_topic, by_bytes, with_topic};
 ghost use Rattle.ws_topic.specs.Rows.{number_at, with_row, without, size, size_at, may_forget, may_forget_row, forgotten};
 
+use crate::besides::bodies_besides;
 use crate::by_topic::{self, ByTopic, copied};
 use std::alloc::Global;
-use std::collections::BTreeMap;
 use std::collections::btree_map::Entry;
+use std::collections::{BTreeMap, BTreeSet};
 use std::marker::Model;
 use ws_model::{NoMemory, Version};
 
@@ -77,9 +80,21 @@ impl Versions {
 
     /// How many bytes the bodies of the kept versions have.
     pub fn bodies(&self) -> u64
-        ensures { result ≡ sum_by size (values_of self.now.versions) }
+        ensures bodies { result ≡ sum_by size (values_of self.now.versions) }
+        ensures ordered { IsStrictlySortedBy nat_cmp (keys_of self.now.versions) }
     {
         self.bodies
+    }
+
+    /// How many bytes the bodies have of the kept versions whose numbers are among these, or that are
+    /// the latest of another topic. It goes over all kept versions.
+    pub fn bodies_besides(&self, topic: &[u8], among: &BTreeSet<u64>) -> u64
+        ensures bodies { result ≡ bodies_besides topic.now among.now self.now.latest self.now.versions }
+        ensures ordered { IsStrictlySortedBy nat_cmp (keys_of self.now.versions) }
+    {
+        // That the bodies' bytes are few is known from their count.
+        let _ = self.bodies();
+        bodies_besides(&self.by_number, &self.latest, topic, among)
     }
 
     /// Adds a version, which is the latest of its topic then. Its number isn't held.
@@ -119,13 +134,13 @@ impl Versions {
     }
 }
 
-fn latest_in(latest: &Latest, topic: &[u8]) -> Option<u64>
+pub(crate) fn latest_in(latest: &Latest, topic: &[u8]) -> Option<u64>
     ensures { result ≡ at_topic topic.now (by_bytes latest.now.entries) }
 {
     by_topic::get(latest, topic).copied()
 }
 
-fn size(version: &Version) -> u64
+pub(crate) fn size(version: &Version) -> u64
     ensures { result ≡ size version.now }
 {
     version.body.as_slice().len() as u64

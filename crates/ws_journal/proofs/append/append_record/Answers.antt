@@ -1,12 +1,13 @@
-use Rattle.std.proofs.Common.{◌≡◌, ◌-◌, ◌∷◌, [], ◌++◌, ℕ, List, length, inl, sym, ◌∙◌, ap, subst, arith}
+use Rattle.std.proofs.Common.{◌≡◌, ◌-◌, ◌∷◌, [], ◌++◌, ℕ, List, length, inl, sym, ◌∙◌, ap, subst, arith, length-append}
 use Rattle.ws_disk.specs.Crash.{overwritten}
 use Rattle.ws_journal.specs.declared.store.Edition.TheVariants.{Second}
 use Rattle.ws_journal.specs.Text.{record_text}
 use Rattle.ws_journal.specs.Kept.{IsShut, IsInDoubt, IsWithOrWithout}
 use Rattle.ws_journal.proofs.Files.{doubt_either}
-use Rattle.ws_journal.proofs.Records.{reaches, opened}
+use Rattle.ws_journal.proofs.Records.{length-record, reaches, opened}
 use Rattle.ws_journal.proofs.Moments.{weaker, then_run, at_end}
 use Rattle.ws_journal.proofs.Gates.{until_gate, stands_staged, while_gate}
+use Rattle.ws_journal.proofs.Reaching.{written_longer, keeps_reach, torn_reach}
 use Rattle.ws_journal.proofs.append.append_record.Goals as goal
 
 pub set_gate-requires : goal.set_gate-requires
@@ -94,3 +95,49 @@ returns-in-Ok-clause-acknowledged g c = λ front honest is each image now.
     let file : image ≡ overwritten (length front) (1 ∷ []) (D.seen mid) =
     c.in-Ok.ensures.confirmed honest1 image now ∙ c.in-Ok.ensures.written honest1 ∙ ap (λ (n : ℕ). overwritten n (1 ∷ []) (D.seen mid)) place in
     subst (IsShut (front ++ 1 ∷ text)) (sym file) (opened front text (D.seen mid) staged)
+
+pub returns-in_err-put_record-clause-keeps : goal.returns-in_err-put_record-clause-keeps
+returns-in_err-put_record-clause-keeps g c = λ honest each.
+    let D = g.D.Disk in
+    let new = c.put_record.new.disk in
+    let honest1 = c.put_record.ensures.honesty.1 honest in
+    keeps_reach D.moment D.images c.args.tail c.args.disk.now new (λ t later image le left. g.met.D.Disk.images_grow new t later image honest1 le left) each c.args.tail (c.put_record.ensures.any_moment honest)
+
+pub returns-in-Err-clause-keeps : goal.returns-in-Err-clause-keeps
+returns-in-Err-clause-keeps g c = λ honest each.
+    let D = g.D.Disk in
+    let mid = c.put_record.new.disk in
+    let new = c.set_gate.new.disk in
+    let honest1 = c.put_record.ensures.honesty.1 honest in
+    let honest2 = c.set_gate.ensures.honesty.1 honest1 in
+    let there = keeps_reach D.moment D.images c.args.tail c.args.disk.now mid (λ t later image le left. g.met.D.Disk.images_grow mid t later image honest1 le left) each c.args.tail (c.put_record.ensures.any_moment honest) in
+    torn_reach D.moment D.images c.args.tail mid new (λ t later image le left. g.met.D.Disk.images_grow new t later image honest2 le left) there (c.args.tail - 1) 1 (c.set_gate.ensures.any_moment honest1)
+
+pub returns-in-Ok-clause-keeps : goal.returns-in-Ok-clause-keeps
+returns-in-Ok-clause-keeps g c = λ honest each.
+    let D = g.D.Disk in
+    let mid = c.put_record.new.disk in
+    let new = c.set_gate.new.disk in
+    let honest1 = c.put_record.ensures.honesty.1 honest in
+    let honest2 = c.set_gate.ensures.honesty.1 honest1 in
+    let there = keeps_reach D.moment D.images c.args.tail c.args.disk.now mid (λ t later image le left. g.met.D.Disk.images_grow mid t later image honest1 le left) each c.args.tail (c.put_record.ensures.any_moment honest) in
+    torn_reach D.moment D.images c.args.tail mid new (λ t later image le left. g.met.D.Disk.images_grow new t later image honest2 le left) there (c.args.tail - 1) 1 (c.set_gate.ensures.any_moment honest1)
+
+pub returns-in-Ok-clause-reaches : goal.returns-in-Ok-clause-reaches
+returns-in-Ok-clause-reaches g c = λ honest image now.
+    let D = g.D.Disk in
+    let payload = c.args.payload.now in
+    let bytes = record_text Second payload ++ 0 ∷ [] in
+    let file = D.seen c.args.disk.now in
+    let mid = D.seen c.put_record.new.disk in
+    let honest1 = c.put_record.ensures.honesty.1 honest in
+    let last : image ≡ overwritten (c.args.tail - 1) (1 ∷ []) mid = c.in-Ok.ensures.confirmed honest1 image now ∙ c.in-Ok.ensures.written honest1 in
+    omega (
+      arith,
+      ap length last,
+      written_longer (c.args.tail - 1) (1 ∷ []) mid,
+      ap length (c.in_ok-put_record.ensures.written honest),
+      reaches c.args.tail bytes file (c.requires.place honest),
+      length-append (record_text Second payload) (0 ∷ []),
+      length-record payload,
+    )

@@ -18,6 +18,3 @@ returns-in-Err-clause-any_moment g c = λ honest spare.
     weaker D.moment D.images c.args.disk.now c.make_device.new.disk (IsBelowOrMade 0 1 []) (IsUnusedOrMade 1 [])
     (λ image. ⊎_elim (λ (below : IsBelow 0 image). inl (unused-below image below)) (λ (made : IsMade 1 [] image). inr made))
     (c.make_device.ensures.any_moment 0 honest spare)
-
-pub returns-in-Ok-clause-made : goal.returns-in-Ok-clause-made
-returns-in-Ok-clause-made g c = λ honest spare. c.in-Ok.ensures.made 0 honest spare

@@ -103,7 +103,7 @@ returns-in-Ok-clause-any_moment g c = λ older honest spare.
     (while_gate D.moment D.images [] (body_text generation batches) 0 refl last new half (c.set_gate.ensures.any_moment honest2)))
 
 pub returns-in-Ok-clause-made : goal.returns-in-Ok-clause-made
-returns-in-Ok-clause-made g c = λ older honest spare image now.
+returns-in-Ok-clause-made g c = λ honest image now.
     let D = g.D.Disk in
     let generation = c.args.generation in
     let batches = c.args.batches.now in

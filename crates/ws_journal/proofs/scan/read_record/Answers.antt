@@ -1,4 +1,4 @@
-use Rattle.std.proofs.Common.{ℕ, List, Err, subst, arith}
+use Rattle.std.proofs.Common.{ℕ, List, Err, length, ap, subst, arith}
 use Rattle.ws_journal.specs.Device.{Checks, FindsRecord}
 use Rattle.ws_journal.proofs.Found.{record_at, checked}
 use Rattle.ws_journal.proofs.Results.{err_as}
@@ -22,3 +22,12 @@ returns-clause-record g c = λ honest size.
     let whole = rw c.in-Some.is at (c.in_ok-kept.ensures.whole honest size) in
     let checks = rw c.deref.ensures.value at c.in_ok-events.ensures in
     record_at c.args.edition c.args.at found.next found.kept found.payload.items file whole.0 c.in_ok-events.events whole.1 checks.0 checks.1 checks.2
+
+pub returns-clause-batch : goal.returns-clause-batch
+returns-clause-batch g c = let checks = rw c.deref.ensures.value at c.in_ok-events.ensures in checks.1
+
+pub returns-clause-short : goal.returns-clause-short
+returns-clause-short g c =
+    let checks = rw c.deref.ensures.value at c.in_ok-events.ensures in
+    let short = rw c.in-Some.is at c.in_ok-kept.ensures.short in
+    omega (arith, short, ap length checks.2)

@@ -1,5 +1,5 @@
 use Rattle.std.proofs.Common.{◌≡◌, take}
-use Rattle.ws_journal.specs.Replaced.{texts}
+use Rattle.ws_journal.specs.Text.{texts}
 use Rattle.ws_journal.proofs.upgrade.batch_texts.Given as goal
 
 abbrev pub invariant-loop-batch : goal.invariant-loop-batch

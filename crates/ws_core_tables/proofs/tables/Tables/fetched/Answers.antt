@@ -23,7 +23,7 @@ returns-in-Ok-clause-ok c =
     subst (λ (r : Rows). GoesOn c.args.event.now c.args.self.now (record { intents = r.intents; leases = r.leases; topics = r.topics; deliveries = r.deliveries; numbers = c.after-self-inside.result })) (sym c.self-2.view_is)
     (by_version c.args.event.now c.args.self.now c.deliver.new.self c.after-self-inside.result c.args.version.now c.requires.kind
     (c.after-self-inside.ensures ∙ ap (λ (r : Rows). with_event c.args.event.now r.numbers) c.self-2.view_is)
-    c.in-Ok.ensures.intents c.in-Ok.ensures.leases c.in-Ok.ensures.numbers c.in-Ok.ensures.topics c.in-Ok.ensures.numbered c.in-Ok.ensures.pairs)
+    c.in-Ok.ensures.intents c.in-Ok.ensures.leases c.in-Ok.ensures.numbers c.in-Ok.ensures.topics c.in-Ok.ensures.versions c.in-Ok.ensures.numbered c.in-Ok.ensures.pairs)
 
 same_tables : (a b : Rows) → a.intents ≡ b.intents → a.leases ≡ b.leases → a.topics ≡ b.topics → a.deliveries ≡ b.deliveries → a.numbers ≡ b.numbers → a ≡ b
 same_tables a b p q r s t = λ j. record { intents = p j; leases = q j; topics = r j; deliveries = s j; numbers = t j }

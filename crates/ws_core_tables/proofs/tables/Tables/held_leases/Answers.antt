@@ -1,4 +1,4 @@
-use Rattle.std.proofs.Common.{◌≤◌, ◌<◌, ◌^◌, ap, sym, subst, length, arith}
+use Rattle.std.proofs.Common.{◌<◌, ◌^◌, sym, subst, length, arith}
 use Rattle.ws_core_tables.proofs.Holding.{subscriptions_le}
 use Rattle.ws_core_tables.proofs.tables.Tables.held_leases.Goals as goal
 

@@ -3,10 +3,12 @@ use Rattle.ws_core_tables.proofs.Onward.{by_topics, from_shown}
 use Rattle.ws_model.specs.declared.event.What.{What}
 use Rattle.ws_model.specs.declared.event.What.TheVariants.{Pinged}
 use Rattle.ws_core_tables.specs.Stands.{is_of_topics}
+use Rattle.ws_topic.specs.Rows.{Rows as TopicRows}
 use Rattle.ws_core_tables.proofs.tables.Tables.pinged.Goals as goal
 
 pub returns-clause-ok : goal.returns-clause-ok
 returns-clause-ok c =
     from_shown c.args.event.now _ _ _ c.self.view_is
     (by_topics c.args.event.now _ c.pinged.new.self c.after-self-inside.result (subst (λ (w : What). is_of_topics w ≡ true) (sym c.requires.kind) refl) c.after-self-inside.ensures
+    (ap (λ (r : TopicRows). r.versions) c.in_ok-pinged.ensures.ok)
     (λ h s l. c.in_ok-pinged.ensures.stands h c.args.event.now s l (c.requires.kind ∙ ap Pinged (sym c.as_slice.ensures)) refl))

@@ -10,7 +10,7 @@ use Rattle.ws_lease.specs.Table.{live_at}
 use Rattle.ws_lease.proofs.WhichEvents.{ended_is_live, revoked_ends}
 use Rattle.ws_core_tables.proofs.Lookups.{live_number}
 use Rattle.ws_core_tables.proofs.Onward.{by_revocation, from_shown}
-use Rattle.ws_core_tables.proofs.Stepped.{closed_pairs, revoked_stands}
+use Rattle.ws_core_tables.proofs.Stepped.{closed_kept, closed_pairs, revoked_stands}
 use Rattle.ws_core_tables.proofs.tables.Tables.revoked.Goals as goal
 
 none_live : (o : Option Lease) (l : Lease) → None ≡ o → o ≡ Some l → ⊥
@@ -35,4 +35,5 @@ returns-clause-ok c =
     (ap (λ m. option_map (λ l. l.intent) (find (λ l. l.intent.n == m) (live h c.args.event.now.t))) (ap (λ i. i.n) same ∙ number) ∙ ap (option_map (λ (l : Lease). l.intent)) (sym found) ∙ ap Some (sym same)))
     (λ h since s l k. c.end.ensures.stands h c.args.event.now since s k l (revoked_ends h c.args.event.now c.args.n c.args.reason.now l c.requires.kind))
     (λ h since s l k. revoked_stands c.args.event.now h since c.self.inside.deliveries c.close_lease.new.self c.args.n c.args.reason.now c.requires.kind l s k c.close_lease.ensures.look)
-    (λ h p. closed_pairs (IsOfHistory h) c.self.inside.deliveries c.close_lease.new.self (λ v n. c.args.n == n) c.close_lease.ensures.look p))
+    (λ h p. closed_pairs (IsOfHistory h) c.self.inside.deliveries c.close_lease.new.self (λ v n. c.args.n == n) c.close_lease.ensures.look p)
+    (closed_kept c.self.inside.deliveries c.close_lease.new.self (λ v n. c.args.n == n) c.close_lease.ensures.look))

@@ -13,7 +13,7 @@ use Rattle.ws_core_tables.specs.Rows.{Rows}
 use Rattle.ws_core_tables.specs.Stands.{GoesOn}
 use Rattle.ws_core_tables.proofs.Confirmation.{there}
 use Rattle.ws_core_tables.proofs.Lookups.{pending_is}
-use Rattle.ws_core_tables.proofs.NewLease.{lasts, makes_lease, no_pairs, renewed_pairs, replaced_whole}
+use Rattle.ws_core_tables.proofs.NewLease.{lasts, makes_lease, no_pairs, renewed_kept, renewed_pairs, replaced_whole}
 use Rattle.ws_core_tables.proofs.Onward.{by_confirmation}
 use Rattle.ws_core_tables.proofs.Renewal.{subscription_stands}
 use Rattle.ws_core_tables.proofs.tables.Tables.subscribed.Goals as goal
@@ -76,4 +76,5 @@ returns-clause-ok c =
     c.in_ok-renew_lease.ensures.pairs)
     (λ h since s l k.
     let waits = c.in_ok-intent.ensures ∙ pending_is h old.intents c.args.n s.intents in
-    renewed_pairs e h lease e.t c.lease_of-old.result old.deliveries new.deliveries l (makes_lease e h c.args.n c.args.sent i c.requires.kind waits) on s.pairs c.in_ok-renew_lease.ensures.pairs))
+    renewed_pairs e h lease e.t c.lease_of-old.result old.deliveries new.deliveries l (makes_lease e h c.args.n c.args.sent i c.requires.kind waits) on s.pairs c.in_ok-renew_lease.ensures.pairs)
+    (renewed_kept lease e.t c.lease_of-old.result old.deliveries new.deliveries c.in_ok-renew_lease.ensures.pairs))

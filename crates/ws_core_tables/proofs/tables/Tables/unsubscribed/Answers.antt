@@ -14,7 +14,7 @@ use Rattle.ws_core_tables.specs.Stands.{GoesOn, IsOfHistory, is_number}
 use Rattle.ws_core_tables.proofs.Confirmation.{confirmed_is, found_lives, there, unsubscription_does, unsubscription_stands}
 use Rattle.ws_core_tables.proofs.Lookups.{waiting_is}
 use Rattle.ws_core_tables.proofs.Onward.{by_confirmation, pairs_on}
-use Rattle.ws_core_tables.proofs.Stepped.{closed_pairs}
+use Rattle.ws_core_tables.proofs.Stepped.{closed_kept, closed_pairs}
 use Rattle.ws_core_tables.proofs.tables.Tables.unsubscribed.Goals as goal
 
 pub end_lease-requires-clause-live : goal.end_lease-requires-clause-live
@@ -47,5 +47,6 @@ returns c =
           let waits = waiting_is h old.intents c.args.n w.it s.intents w.is in
           unsubscription_stands e h since old.deliveries new.deliveries c.args.n c.args._sent w.it.intent c.requires.kind (confirmed_is e h c.args.n c.args._sent w.it.intent c.requires.kind waits) w.has l s.deliveries k
           (λ v m. c.end_lease.ensures.pairs v m ∙ ap (λ o. cond (is_number o m) None (pair_at v m old.deliveries)) (c.lease_of-lease.ensures.stands h since w.it.intent s l.0 k waits)))
-          (λ h since s l k. pairs_on e h new.deliveries l (closed_pairs (IsOfHistory h) old.deliveries new.deliveries (λ v m. is_number c.lease_of-lease.result m) c.end_lease.ensures.pairs s.pairs)));
+          (λ h since s l k. pairs_on e h new.deliveries l (closed_pairs (IsOfHistory h) old.deliveries new.deliveries (λ v m. is_number c.lease_of-lease.result m) c.end_lease.ensures.pairs s.pairs))
+          (closed_kept old.deliveries new.deliveries (λ v m. is_number c.lease_of-lease.result m) c.end_lease.ensures.pairs));
     }

@@ -1,4 +1,4 @@
-use Rattle.std.proofs.Common.{ap, sym, ◌∙◌, find, not}
+use Rattle.std.proofs.Common.{ap, ◌∙◌, find, not}
 use Rattle.ws_model.specs.Due.{is_out}
 use Rattle.ws_model.specs.declared.work.Work.TheVariants.{Verify}
 use Rattle.ws_intent.specs.Index.{has_in}
@@ -8,7 +8,7 @@ use Rattle.ws_intent.proofs.pending.Pending.first_due.Goals as goal
 
 pub returns-clause-first : goal.returns-clause-first
 returns-clause-first c =
-    c.first_free.ensures ∙ ap (λ h. find (λ n. not (is_out h (Verify n))) c.deref.result.now) c.as_slice.ensures
-    ∙ ap (λ xs. find (λ n. not (is_out c.args.held.now (Verify n))) xs) (c.deref.ensures.value
-    ∙ firsts_are c.self.inside.by_number.entries c.self.invariant.rows (has_in c.self.inside.by_pair) c.self.inside.firsts.items c.self.invariant.tracked
+    c.first_free.ensures
+    ∙ ap (λ xs. find (λ n. not (is_out c.args.held.now (Verify n))) xs)
+    (firsts_are c.self.inside.by_number.entries c.self.invariant.rows (has_in c.self.inside.by_pair) c.self.inside.firsts c.self.invariant.tracked
     ∙ ap first_numbers c.self.view_is)

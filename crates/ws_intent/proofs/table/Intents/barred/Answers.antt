@@ -1,6 +1,5 @@
-use Rattle.std.proofs.Common.{◌≡◌, ℕ, ◌∷◌, cond, refl, subst, sym, ap, ◌∙◌, Some, None}
+use Rattle.std.proofs.Common.{◌≡◌, ◌∷◌, cond, subst, sym, ap, ◌∙◌, Some}
 use Rattle.std.specs.Prelude.{◌==◌}
-use Rattle.ws_intent.specs.declared.rows.Denial.{Denial}
 use Rattle.ws_intent.specs.declared.rows.Waiting.{Waiting}
 use Rattle.ws_intent.specs.Rows.{Rows, denied_by, denied_rows, number_at, without}
 use Rattle.ws_intent.specs.Stands.{StandsFor}

@@ -4,7 +4,8 @@ use Rattle.ws_journal.specs.declared.store.Store.{Store}
 use Rattle.ws_journal.specs.declared.journal.Journal.{Journal}
 use Rattle.ws_journal.specs.Stands.{counting, Stands, DoubtClosed}
 use Rattle.ws_journal.proofs.Appending.{crash_none}
-use Rattle.ws_journal.proofs.Replacing.{not_device, kept_place, failed_is}
+use Rattle.ws_journal.proofs.Reaching.{tail_stays}
+use Rattle.ws_journal.proofs.Replacing.{not_device, failed_is}
 use Rattle.ws_journal.proofs.journal.Journal.append.Goals as goal
 
 pub returns-then-asked-self-clause-any_moment : goal.returns-then-asked-self-clause-any_moment
@@ -30,7 +31,7 @@ append_counting-requires-clause-place g c = λ honest1.
     let file = D.seen (counting journal.side store) in
     omega (
       arith,
-      kept_place D.moment D.images journal store file (c.requires.stands honest) (g.met.D.Disk.seen_is_image (counting journal.side store) honest),
+      c.requires.place honest file (g.met.D.Disk.seen_is_image (counting journal.side store) honest),
       c.close_beside.ensures.tail,
       ap (λ (d : g.row.D.Denot). length (D.seen d)) disk,
     )
@@ -68,3 +69,16 @@ returns-clause-device_closed g c = λ payloads newer honest beside stands within
       appending = c.append_counting.ensures.any_moment payloads None honest1 settled;
       appended = c.append_counting.ensures.appended payloads None honest1 settled;
     })
+
+pub returns-in_err-close_beside-clause-place : goal.returns-in_err-close_beside-clause-place
+returns-in_err-close_beside-clause-place g c =
+    let D = g.D.Disk in
+    let closed = c.close_beside.ensures in
+    tail_stays D.honest D.moment D.images c.args.self.now c.close_beside.new.self c.args.store.now c.close_beside.new.store c.requires.place closed.same.side closed.tail closed.untouched
+
+pub returns-clause-place : goal.returns-clause-place
+returns-clause-place g c =
+    let D = g.D.Disk in
+    let closed = c.close_beside.ensures in
+    c.append_counting.ensures.reaches
+    (tail_stays D.honest D.moment D.images c.args.self.now c.close_beside.new.self c.args.store.now c.close_beside.new.store c.requires.place closed.same.side closed.tail closed.untouched)

@@ -1,7 +1,7 @@
 use Rattle.std.proofs.Common.{◌⊎◌, ◌∷◌, ℕ, List, Some, None, inl, inr, refl, sym, arith, length-append}
 use Rattle.ws_journal.specs.declared.store.Edition.TheVariants.{Second}
 use Rattle.ws_journal.specs.Text.{record_text}
-use Rattle.ws_journal.specs.Kept.{IsWithOrWithout}
+use Rattle.ws_journal.specs.Kept.{IsWithOrWithout, Each, Reaches}
 use Rattle.ws_journal.specs.Stands.{IsLeft}
 use Rattle.ws_journal.proofs.Moments.{weaker, then_run}
 use Rattle.ws_journal.proofs.Records.{length-record}
@@ -118,3 +118,23 @@ returns-in-Err-InDoubt-clause-appends g c = λ front doubt honest counts.
         known = refl;
       },
     )
+
+pub returns-in_err-close_doubt-clause-reaches : goal.returns-in_err-close_doubt-clause-reaches
+returns-in_err-close_doubt-clause-reaches g c = λ honest each image now. omega (arith, c.close_doubt.ensures.keeps honest each image now, c.close_doubt.ensures.tail)
+
+pub returns-in-Ok-clause-reaches : goal.returns-in-Ok-clause-reaches
+returns-in-Ok-clause-reaches g c = λ honest each image now. omega (arith, c.in-Ok.ensures.reaches (c.close_doubt.ensures.honesty.1 honest) image now)
+
+pub returns-in-Err-Before-clause-reaches : goal.returns-in-Err-Before-clause-reaches
+returns-in-Err-Before-clause-reaches g c = λ honest each.
+    let D = g.D.Disk in
+    let there : Each (D.images c.close_doubt.new.disk (D.moment c.close_doubt.new.disk)) (Reaches c.close_doubt.new.self.tail) =
+    λ image now. omega (arith, c.close_doubt.ensures.keeps honest each image now, c.close_doubt.ensures.tail) in
+    c.append_record.ensures.keeps (c.close_doubt.ensures.honesty.1 honest) there
+
+pub returns-in-Err-InDoubt-clause-reaches : goal.returns-in-Err-InDoubt-clause-reaches
+returns-in-Err-InDoubt-clause-reaches g c = λ honest each.
+    let D = g.D.Disk in
+    let there : Each (D.images c.close_doubt.new.disk (D.moment c.close_doubt.new.disk)) (Reaches c.close_doubt.new.self.tail) =
+    λ image now. omega (arith, c.close_doubt.ensures.keeps honest each image now, c.close_doubt.ensures.tail) in
+    c.append_record.ensures.keeps (c.close_doubt.ensures.honesty.1 honest) there

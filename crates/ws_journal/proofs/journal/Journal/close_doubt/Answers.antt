@@ -4,6 +4,7 @@ use Rattle.ws_journal.specs.Kept.{IsShut}
 use Rattle.ws_journal.specs.Stands.{IsLeft}
 use Rattle.ws_journal.proofs.Moments.{at_end}
 use Rattle.ws_journal.proofs.Records.{reaches}
+use Rattle.ws_journal.proofs.Reaching.{torn_reach}
 use Rattle.ws_journal.proofs.Standing.{closing, closed_gate, closes_err}
 use Rattle.ws_journal.proofs.journal.Journal.close_doubt.Goals as goal
 
@@ -54,3 +55,17 @@ returns-in_ok-set_gate-clause-place g c = λ honest1.
     let place = c.args.self.now.tail - 1 in
     let old = D.seen c.args.disk.now in
     omega (arith, reaches place (0 ∷ []) old (omega (arith, c.requires.place honest)), ap length (c.in_ok-set_gate.ensures.written honest), c.args.self.now.begun)
+
+pub returns-in_err-set_gate-clause-keeps : goal.returns-in_err-set_gate-clause-keeps
+returns-in_err-set_gate-clause-keeps g c = λ honest each.
+    let D = g.D.Disk in
+    let new = c.set_gate.new.disk in
+    let honest1 = c.set_gate.ensures.honesty.1 honest in
+    torn_reach D.moment D.images c.args.self.now.tail c.args.disk.now new (λ t later image le left. g.met.D.Disk.images_grow new t later image honest1 le left) each (c.args.self.now.tail - 1) 1 (c.set_gate.ensures.any_moment honest)
+
+pub returns-in_ok-set_gate-clause-keeps : goal.returns-in_ok-set_gate-clause-keeps
+returns-in_ok-set_gate-clause-keeps g c = λ honest each.
+    let D = g.D.Disk in
+    let new = c.set_gate.new.disk in
+    let honest1 = c.set_gate.ensures.honesty.1 honest in
+    torn_reach D.moment D.images c.args.self.now.tail c.args.disk.now new (λ t later image le left. g.met.D.Disk.images_grow new t later image honest1 le left) each (c.args.self.now.tail - 1) 1 (c.set_gate.ensures.any_moment honest)

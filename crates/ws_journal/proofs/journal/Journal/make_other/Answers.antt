@@ -1,9 +1,6 @@
 use Rattle.std.proofs.Common.{inl, inr, refl}
 use Rattle.ws_journal.proofs.journal.Journal.make_other.Goals as goal
 
-pub returns-in-Ok-clause-made : goal.returns-in-Ok-clause-made
-returns-in-Ok-clause-made g c = λ older honest spare. c.in-Ok.ensures.made older honest spare
-
 pub returns-in-Err-Before-clause-failed : goal.returns-in-Err-Before-clause-failed
 returns-in-Err-Before-clause-failed g c = λ older honest spare failed.
     inl (refl, (c.in-Err-Before.ensures.before older honest spare (cc c.in-Err-Before.field-0-is)).spare)

@@ -1,11 +1,11 @@
 use Rattle.std.proofs.Common.{◌⊎◌, inl, inr, ℕ, List, Err, sym, ◌∙◌, subst}
 use Rattle.ws_disk.specs.Crash.{LeavesOnly}
 use Rattle.ws_journal.specs.Image.{fresh, Reads, IsUnused}
-use Rattle.ws_journal.specs.Recovered.{Chooses, StillReads, Recovers, opened, IsMaking}
+use Rattle.ws_journal.specs.Recovered.{CountsOn, Chooses, StillReads, Recovers, opened, IsMaking}
 use Rattle.ws_journal.proofs.Moments.{then_run, weaker}
 use Rattle.ws_journal.proofs.Looking.{then_calls}
 use Rattle.ws_journal.proofs.Results.{err_as}
-use Rattle.ws_journal.proofs.Opening.{chosen_fault, fault_recovers, new_recovers, new_reads, confirmed_on}
+use Rattle.ws_journal.proofs.Opening.{chosen_fault, fault_recovers, given_recovers, new_recovers, new_reads, confirmed_on, confirmed_still}
 use Rattle.ws_journal.proofs.journal.Journal.recover.Goals as goal
 
 pub returns-in_err-counting-clause-reads : goal.returns-in_err-counting-clause-reads
@@ -92,3 +92,38 @@ returns-in-None-clause-any_moment g c = λ honest_a honest_b.
       first = then_run D.moment D.images old.a after.a new.a P read_a made_a;
       second = subst (λ (d : _). LeavesOnly D.moment D.images old.b d (D.images old.b (D.moment old.b))) (sym c.recover_new.ensures.untouched) (so_far_b.unwritten honest_b).crash;
     }
+
+pub returns-in-Some-clause-place : goal.returns-in-Some-clause-place
+returns-in-Some-clause-place g c =
+    let D = g.D.Disk in
+    let mid = c.sync_both.new.store in
+    let after = c.read_heads.new.store in
+    let both = c.in_ok-sync_both.ensures in
+    let heads = c.in_ok-counting.ensures in
+    c.recover_used.ensures.place
+    (λ now. let was = heads.reads_a.honesty.0 now in confirmed_still D.honest D.seen D.moment D.images D.faults mid.a after.a was (both.confirmed_a (both.reads_a.honesty.0 was)) heads.reads_a)
+    (λ now. let was = heads.reads_b.honesty.0 now in confirmed_still D.honest D.seen D.moment D.images D.faults mid.b after.b was (both.confirmed_b (both.reads_b.honesty.0 was)) heads.reads_b)
+
+pub returns-in-Some-clause-reads : goal.returns-in-Some-clause-reads
+returns-in-Some-clause-reads g c = λ honest_a honest_b.
+    let D = g.D.Disk in
+    let old = c.args.store.now in
+    let mid = c.sync_both.new.store in
+    let after = c.read_heads.new.store in
+    let chosen = c.in-Some.counting in
+    let both = c.in_ok-sync_both.ensures in
+    let heads = c.in_ok-counting.ensures in
+    let a = both.reads_a.honesty.1 honest_a in
+    let b = both.reads_b.honesty.1 honest_b in
+    let same_a = (heads.reads_a.unwritten a).same in
+    let same_b = (heads.reads_b.unwritten b).same in
+    let counts = rw c.in-Some.is at (heads.chooses a b) in
+    let result = opened c.recover_used.result in
+    let there : CountsOn chosen.side chosen.edition chosen.generation counts.0 (D.seen after.a) (D.seen after.b) =
+    subst (λ (s : List ℕ). CountsOn chosen.side chosen.edition chosen.generation counts.0 (D.seen after.a) s) (sym same_b)
+    (subst (λ (f : List ℕ). CountsOn chosen.side chosen.edition chosen.generation counts.0 f (D.seen mid.b)) (sym same_a) counts.1) in
+    let given = c.recover_used.ensures.given (heads.reads_a.honesty.1 a) (heads.reads_b.honesty.1 b) counts.0 there in
+    let first = same_a ∙ (both.reads_a.unwritten honest_a).same in
+    let second = same_b ∙ (both.reads_b.unwritten honest_b).same in
+    given_recovers (D.seen old.a) (D.seen old.b) result
+    (subst (λ (s : List ℕ). StillReads (D.seen old.a) s result) second (subst (λ (f : List ℕ). StillReads f (D.seen after.b) result) first given))

@@ -4,7 +4,8 @@ use Rattle.ws_journal.specs.declared.store.Store.{Store}
 use Rattle.ws_journal.specs.declared.journal.Journal.{Journal}
 use Rattle.ws_journal.specs.Stands.{counting, other, Stands, SameJournal}
 use Rattle.ws_journal.specs.Replaced.{StandsBeside, BesideCrash, CountingCrash, ReadsOlderOrNewer, ReadsLeft}
-use Rattle.ws_journal.proofs.Replacing.{kept_place, not_device, not_batch, not_done}
+use Rattle.ws_journal.proofs.Reaching.{tail_stays}
+use Rattle.ws_journal.proofs.Replacing.{not_device, not_batch, not_done}
 use Rattle.ws_journal.proofs.journal.Journal.switch.Goals as goal
 
 pub close_batch-requires : goal.close_batch-requires
@@ -12,7 +13,7 @@ close_batch-requires g c = record {
   place = λ honest.
       let D = g.D.Disk in
       let disk = counting c.args.self.now.side c.args.store.now in
-      kept_place D.moment D.images c.args.self.now c.args.store.now (D.seen disk) (c.requires.stands honest) (g.met.D.Disk.seen_is_image disk honest);
+      c.requires.place honest (D.seen disk) (g.met.D.Disk.seen_is_image disk honest);
 }
 
 pub returns-in_err-close_beside-clause-replaces_beside : goal.returns-in_err-close_beside-clause-replaces_beside
@@ -86,3 +87,16 @@ returns-clause-replaces_beside g c = λ payloads doubted honest beside stands.
       making = c.make_next.ensures.any_moment payloads small2 there2 stands2;
       replaced = c.make_next.ensures.replaced payloads small2 there2 stands2;
     })
+
+pub returns-in_err-close_beside-clause-place : goal.returns-in_err-close_beside-clause-place
+returns-in_err-close_beside-clause-place g c =
+    let D = g.D.Disk in
+    let closed = c.close_beside.ensures in
+    tail_stays D.honest D.moment D.images c.close_batch.new.self c.close_beside.new.self c.close_batch.new.store c.close_beside.new.store (c.close_batch.ensures.reaches c.requires.place) closed.same.side closed.tail closed.untouched
+
+pub returns-clause-place : goal.returns-clause-place
+returns-clause-place g c =
+    let D = g.D.Disk in
+    let closed = c.close_beside.ensures in
+    c.make_next.ensures.reaches
+    (tail_stays D.honest D.moment D.images c.close_batch.new.self c.close_beside.new.self c.close_batch.new.store c.close_beside.new.store (c.close_batch.ensures.reaches c.requires.place) closed.same.side closed.tail closed.untouched)

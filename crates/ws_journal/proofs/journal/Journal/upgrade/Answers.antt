@@ -1,7 +1,7 @@
 use Rattle.std.proofs.Common.{◌≡◌, ap, subst, arith}
 use Rattle.std.specs.Prelude.{List, ℕ, All}
-use Rattle.ws_journal.specs.Text.{IsPayload}
-use Rattle.ws_journal.specs.Replaced.{records_len, texts}
+use Rattle.ws_journal.specs.Text.{IsPayload, texts}
+use Rattle.ws_journal.specs.Replaced.{records_len}
 use Rattle.ws_journal.proofs.Writing.{length-records}
 use Rattle.ws_journal.proofs.Recorded.{payloads_of}
 use Rattle.ws_journal.proofs.journal.Journal.upgrade.Goals as goal

@@ -1,0 +1,5 @@
+pub mod Acceptance
+pub mod Beginning
+pub mod FateOf
+pub mod Following
+pub mod Going

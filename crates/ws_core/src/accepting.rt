@@ -1,0 +1,20 @@
+// What may happen next.
+ghost use Rattle.std.specs.Prelude.{◌≡◌, ◌≤◌, ℕ, List, IfOk, max};
+ghost use Rattle.ws_model.specs.declared.event.Event.{Event};
+ghost use Rattle.ws_model.specs.Legal.{Legal, accepts};
+ghost use Rattle.ws_model.specs.Moment.{last_time};
+ghost use Rattle.ws_core.specs.Stands.{StandsFor};
+
+use crate::Core;
+use crate::sound::is_sound;
+use ws_model::{Event, NoMemory};
+
+impl Core {
+    /// Whether an event may come after those that were applied: by its order, by the bounds of its own
+    /// fields, and by what the tables hold.
+    pub fn accepts(&self, event: &Event) -> Result<bool, NoMemory>
+        ensures stands { (h : List Event) (since : ℕ) → StandsFor h since self.now → Legal h → since ≤ max event.now.t (last_time h) → IfOk result (λ told. told ≡ accepts h event.now) }
+    {
+        Ok(self.tables.allows(event) && is_sound(self.alloc, event)?)
+    }
+}

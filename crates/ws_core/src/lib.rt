@@ -1,0 +1,11 @@
+//! The hub's core: the tables with what became of each pair. It applies what happened, and says what may
+//! follow, what is due and what a request makes.
+#![tactic(auto)]
+
+mod accepting;
+mod asking;
+mod quiet;
+mod sound;
+mod whole;
+
+pub use whole::Core;

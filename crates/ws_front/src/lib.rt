@@ -15,3 +15,6 @@ mod served;
 pub use give::give_all;
 pub use serve::serve_connection;
 pub use served::Served;
+
+#[cfg(test)]
+mod tests;

@@ -23,8 +23,8 @@ use ws_model::{Bytes, Key, NoMemory, Settings};
 use ws_port::Port;
 use ws_target::{path_and_query, place};
 
-// The path and query of the hub's URL.
-fn own_path(alloc: Global, hub: &Key) -> Result<Bytes, NoMemory>
+/// The path and query of the hub's URL.
+pub fn own_path(alloc: Global, hub: &Key) -> Result<Bytes, NoMemory>
     requires { is_key hub.now ≡ true }
     ensures { IfOk result (λ path. path ≡ path_and_query (place_of hub.now)) }
 {

@@ -139,6 +139,7 @@ stands_later h since t rows s k =
       topics = s.topics;
       deliveries = deliveries_later h since t rows.deliveries s.deliveries k;
       pairs = s.pairs;
+      kept = s.kept;
       numbers = s.numbers;
     }
   where

@@ -4,7 +4,10 @@
 
 mod accepting;
 mod asking;
+mod births;
+mod confirmed;
 mod ends;
+mod fetched;
 mod pushed;
 mod quiet;
 mod sound;

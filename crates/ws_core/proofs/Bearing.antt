@@ -1,6 +1,6 @@
 -- Events that make pairs: new versions, and subscriptions that take over what is owed; and the end of a subscription.
 use Rattle.std.proofs.Common.{◌≡◌, ℕ, ◌≤◌, ◌<◌, ◌+◌, Bool, true, false, cond, ◌&&◌, ◌||◌, List, [], ◌∷◌, refl, ap, sym, ◌∙◌, subst, length, arith}
-use Rattle.std.specs.Prelude.{bytes_eq, is_some, nat_le, ◌==◌, Option, Some, None, IfSome, filter, find, map}
+use Rattle.std.specs.Prelude.{bytes_eq, is_some, nat_le, ◌==◌, Option, Some, None, filter, map}
 use Rattle.std.specs.List.{AllByRecursion, list_any}
 use Rattle.std.specs.Option.{option_map}
 use Rattle.std.proofs.lemmas.Bool.{and_parts, eqb-true, false≢true}
@@ -11,9 +11,7 @@ use Rattle.ws_model.specs.declared.event.Intent.{Intent}
 use Rattle.ws_model.specs.declared.event.Mode.{Mode}
 use Rattle.ws_model.specs.declared.event.Mode.TheVariants.{Off, On}
 use Rattle.ws_model.specs.declared.event.Version.{Version}
-use Rattle.ws_model.specs.declared.event.What.{What}
 use Rattle.ws_model.specs.declared.event.What.TheVariants.{Confirmed, Fetched}
-use Rattle.ws_model.specs.declared.fate.Cause.{Cause}
 use Rattle.ws_model.specs.declared.fate.Cause.TheVariants.{Replaced, Unsubscribed}
 use Rattle.ws_model.specs.declared.lease.Lease.{Lease}
 use Rattle.ws_model.specs.Account.{tallies_of}
@@ -23,7 +21,7 @@ use Rattle.ws_model.specs.History.{has}
 use Rattle.ws_model.specs.Leases.{confirmed_intent, end_by_mode, is_confirmed, is_on, live}
 use Rattle.ws_model.specs.Legal.{Legal}
 use Rattle.ws_model.specs.Moment.{last_version}
-use Rattle.ws_model.specs.Pairs.{owed, pairs}
+use Rattle.ws_model.specs.Pairs.{pairs}
 use Rattle.ws_model.specs.Revocation.{live_lease_of}
 use Rattle.ws_model.specs.View.{OwedPush, view}
 use Rattle.ws_laws.specs.Steps.{new_push, new_pushes, owed_afresh, turn}
@@ -41,11 +39,11 @@ use Rattle.ws_fate.specs.Rows.{standing_at}
 use Rattle.ws_fate.specs.Stands.{is_pair}
 use Rattle.ws_fate.specs.Totals.{standing}
 use Rattle.ws_fate.proofs.Passing.{is_it}
-use Rattle.ws_core_tables.specs.Births.{AreDistinct, member}
+use Rattle.ws_core_tables.specs.Births.{AreDistinct}
 use Rattle.ws_core_tables.specs.Stands.{StandsFor as TablesStand, is_number}
 use Rattle.ws_core_tables.proofs.LeaseCounts.{as_many}
 use Rattle.ws_core_tables.proofs.NewLease.{unconfirmed}
-use Rattle.ws_core_tables.proofs.NewVersion.{distinct_numbers, new_above}
+use Rattle.ws_core_tables.proofs.NewVersion.{new_above}
 use Rattle.ws_core_tables.proofs.Renewal.{by_number, makes, of_found, taken_over}
 use Rattle.ws_core_tables.proofs.Stepped.{pushes}
 use Rattle.ws_core.specs.Pairs.{AreApart, is_listed, moved_to, open_pairs_of, with_lease, with_many, with_version}

@@ -1,9 +1,9 @@
 -- The kinds of event that make or end pairs, by what the code does to the rows.
 use Rattle.std.proofs.Common.{◌≡◌, ℕ, ◌+◌, ◌≤◌, Bool, true, false, cond, ◌&&◌, List, [], ◌∷◌, refl, ap, sym, ◌∙◌, subst, length, arith}
-use Rattle.std.specs.Prelude.{bytes_eq, is_some, ◌==◌, Option, Some, None, IfSome, filter}
+use Rattle.std.specs.Prelude.{bytes_eq, ◌==◌, Option, Some, IfSome, filter}
 use Rattle.std.specs.List.{IsDistinct, list_any}
 use Rattle.std.specs.Option.{option_map}
-use Rattle.std.proofs.lemmas.Bool.{and_parts, eqb-true}
+use Rattle.std.proofs.lemmas.Bool.{eqb-true}
 use Rattle.std.proofs.lemmas.Bool.Decides.{nat_tests}
 use Rattle.std.proofs.lemmas.List.{length-map}
 use Rattle.ws_model.specs.declared.event.Event.{Event}
@@ -14,20 +14,19 @@ use Rattle.ws_model.specs.declared.event.Version.{Version}
 use Rattle.ws_model.specs.declared.event.What.TheVariants.{Confirmed, Fetched, Pushed, Revoked}
 use Rattle.ws_model.specs.declared.fate.Cause.{Cause}
 use Rattle.ws_model.specs.declared.fate.Cause.TheVariants.{Gone as LeaseGone, Replaced, Revoked as LeaseRevoked, Spent, Unsubscribed}
-use Rattle.ws_model.specs.declared.lease.Lease.{Lease}
-use Rattle.ws_model.specs.Leases.{confirmed_intent, is_on, live}
+use Rattle.ws_model.specs.Intents.{pending}
+use Rattle.ws_model.specs.Leases.{is_on, live}
 use Rattle.ws_model.specs.Legal.{Legal, pending_of}
 use Rattle.ws_laws.proofs.ListLaws.{all_find, all_from}
-use Rattle.ws_lease.specs.Stands.{AreNumbersOf, EndsLease, MakesLease, is_numbered}
+use Rattle.ws_lease.specs.Stands.{AreNumbersOf, EndsLease, is_numbered}
 use Rattle.ws_lease.proofs.WhichEvents.{gone_ends, revoked_ends}
 use Rattle.ws_delivery.specs.OpenOf.{open_versions}
-use Rattle.ws_delivery.specs.Stands.{StandsFor as DeliveriesStand}
 use Rattle.ws_delivery.specs.Table.{Rows as DeliveryRows, fate_at, owed_at, pair_at}
 use Rattle.ws_fate.specs.declared.totals.Standing.{Standing}
 use Rattle.ws_fate.specs.declared.totals.Standing.TheVariants.{Open, Answered, Ended}
 use Rattle.ws_fate.specs.Rows.{standing_at}
 use Rattle.ws_fate.specs.Stands.{is_pair}
-use Rattle.ws_core_tables.specs.Stands.{CanFollow as TablesCanFollow, GoesOn as TablesGoOn, IsOfHistory, StandsFor as TablesStand, is_number}
+use Rattle.ws_core_tables.specs.Stands.{CanFollow as TablesCanFollow, GoesOn as TablesGoOn, IsOfHistory, is_number}
 use Rattle.ws_core_tables.proofs.Confirmation.{confirmed_is}
 use Rattle.ws_core_tables.proofs.NewLease.{live_told, makes_lease, owed_whole, replaced_whole}
 use Rattle.ws_core_tables.proofs.Stepped.{pushes}
@@ -35,7 +34,7 @@ use Rattle.ws_core.specs.Pairs.{AreApart, is_listed, moved_to, open_pairs_of, wi
 use Rattle.ws_core.specs.Rows.{Rows}
 use Rattle.ws_core.specs.Spent.{is_last}
 use Rattle.ws_core.specs.Stands.{CanFollow, GoesOn, StandsFor}
-use Rattle.ws_core.proofs.Bearing.{AreMoved, fetched_goes, lease_meant, new_lease, new_version, subscribed_goes, unsubscribed_goes}
+use Rattle.ws_core.proofs.Bearing.{AreMoved, fetched_goes, lease_meant, subscribed_goes, unsubscribed_goes}
 use Rattle.ws_core.proofs.Closing.{AreClosed, done_goes, gone_goes, listed_there, missed_ends, missed_goes, one_there, pushed_there, revoked_goes}
 use Rattle.ws_core.proofs.OwedPairs.{apart_with, enough_open, listed_open, listed_with, owed_open}
 
@@ -162,3 +161,7 @@ pub fetched_stands :
     → ((h : List Event) (since : ℕ) → StandsFor h since old → Legal h → since ≤ e.t → AreNumbersOf ns (filter (λ l. bytes_eq l.intent.topic x.topic) (live h e.t)))
     → TablesGoOn e old.tables new.tables → AreMoved Answered (with_version x.ver ns) [] old new → GoesOn e old new
 fetched_stands e x ns old new kind numbers tables moved h since s l k = fetched_goes e h since x ns old new s l k kind (numbers h since s l.0 k) (tables h since s.tables l k) moved
+
+-- a pending intent has its own number
+pub pending_number : (h : List Event) (n : ℕ) (i : Intent) → Some i ≡ pending_of h n → i.n ≡ n
+pending_number h n i k = eqb-true i.n n (all_find (λ _. Unit {0}) (λ i. i.n == n) i (pending h) (all_from (λ _. Unit {0}) (λ _. tt) (pending h)) (sym k)).1

@@ -1,6 +1,6 @@
 -- Events that end pairs and make none: pushes that ended, ends of subscriptions, revocations.
 use Rattle.std.proofs.Common.{◌≡◌, ℕ, suc, ◌+◌, ◌≤◌, Bool, true, false, cond, ◌&&◌, ◌||◌, List, [], ◌∷◌, refl, ap, sym, ◌∙◌, subst, length, arith}
-use Rattle.std.specs.Prelude.{nat_lt, nat_le, ◌==◌, Option, Some, None, IfSome, find}
+use Rattle.std.specs.Prelude.{nat_lt, nat_le, ◌==◌, Option, Some, None, find}
 use Rattle.std.specs.List.{AllByRecursion, list_any}
 use Rattle.std.specs.Option.{option_map}
 use Rattle.std.proofs.lemmas.Bool.{and_parts, eqb-true, false≢true}
@@ -10,13 +10,12 @@ use Rattle.ws_model.specs.declared.event.How.{How}
 use Rattle.ws_model.specs.declared.event.How.TheVariants.{Done, Gone, Missed}
 use Rattle.ws_model.specs.declared.event.Intent.{Intent}
 use Rattle.ws_model.specs.declared.event.What.{What}
-use Rattle.ws_model.specs.declared.event.What.TheVariants.{Confirmed, Pushed, Revoked}
+use Rattle.ws_model.specs.declared.event.What.TheVariants.{Pushed, Revoked}
 use Rattle.ws_model.specs.declared.fate.Cause.TheVariants.{Expired, Gone as LeaseGone, Spent, Revoked as LeaseRevoked}
 use Rattle.ws_model.specs.declared.fate.Fate.TheVariants.{Owed, Ended as HasEnded}
 use Rattle.ws_model.specs.Account.{tallies_of}
 use Rattle.ws_model.specs.Fate.{delay, fate_by}
-use Rattle.ws_model.specs.Intents.{same_pair}
-use Rattle.ws_model.specs.Leases.{confirmed_intent, end_by_mode}
+use Rattle.ws_model.specs.Leases.{confirmed_intent}
 use Rattle.ws_model.specs.Legal.{Legal, is_allowed}
 use Rattle.ws_model.specs.Pairs.{owed}
 use Rattle.ws_model.specs.View.{OwedPush, owed_push, view}
@@ -43,7 +42,7 @@ use Rattle.ws_core.specs.Spent.{is_last}
 use Rattle.ws_core.specs.Stands.{StandsFor}
 use Rattle.ws_core.proofs.Counted.{IsEnd}
 use Rattle.ws_core.proofs.Ending.{few_tries, goes_on_ending}
-use Rattle.ws_core.proofs.OwedPairs.{all_there, listed_lease, still_owed, turned_cause}
+use Rattle.ws_core.proofs.OwedPairs.{listed_lease, still_owed, turned_cause}
 
 -- what the rows say after an event that ended these pairs so
 pub record AreClosed (how : Standing) (ends : List (ℕ × ℕ)) (old new : Rows) : Type 0 where

@@ -2,16 +2,15 @@
 use Rattle.std.proofs.Common.{◌≡◌, ℕ, zero, suc, ◌+◌, ◌≤◌, Bool, true, false, cond, List, [], ◌∷◌, refl, ap, sym, ◌∙◌, length, arith}
 use Rattle.std.specs.Prelude.{min, filter}
 use Rattle.std.specs.List.{AllByRecursion}
-use Rattle.std.proofs.lemmas.Bool.{false≢true}
 use Rattle.ws_model.specs.declared.event.Event.{Event}
 use Rattle.ws_model.specs.declared.fate.Cause.{Cause}
 use Rattle.ws_model.specs.declared.fate.Cause.TheVariants.{Expired, Unsubscribed, Replaced, Gone as LeaseGone, Spent, Revoked as LeaseRevoked}
 use Rattle.ws_model.specs.declared.fate.Fate.{Fate}
 use Rattle.ws_model.specs.declared.fate.Fate.TheVariants.{Owed, Answered as IsAnswered, Ended as HasEnded}
-use Rattle.ws_model.specs.Account.{account, is_answered, is_ended, most, same_cause}
+use Rattle.ws_model.specs.Account.{is_answered, is_ended, most, same_cause}
 use Rattle.ws_model.specs.Leases.{confirmed_intent}
-use Rattle.ws_model.specs.View.{OwedPush, view}
-use Rattle.ws_laws.specs.Steps.{more, turn, turned}
+use Rattle.ws_model.specs.View.{OwedPush}
+use Rattle.ws_laws.specs.Steps.{more, turn}
 use Rattle.ws_fate.specs.declared.totals.Standing.{Standing}
 use Rattle.ws_fate.specs.declared.totals.Standing.TheVariants.{Open, Answered, Ended}
 use Rattle.ws_fate.specs.declared.totals.Totals.{Totals}

@@ -1,5 +1,5 @@
 -- An event that makes the pairs of one list, and ends those of another.
-use Rattle.std.proofs.Common.{◌≡◌, ℕ, suc, ◌+◌, ◌≤◌, Bool, true, false, not, cond, ◌&&◌, ◌||◌, List, [], ◌∷◌, refl, ap, sym, ◌∙◌, subst, length, arith}
+use Rattle.std.proofs.Common.{◌≡◌, ℕ, suc, ◌+◌, ◌≤◌, Bool, true, false, not, cond, ◌&&◌, ◌||◌, List, [], ◌∷◌, refl, ap, sym, ◌∙◌, length, arith}
 use Rattle.std.specs.Prelude.{nat_le, is_none, is_some, ◌==◌, Option, Some, None, map, filter, find}
 use Rattle.std.specs.List.{AllByRecursion, IsDistinct, list_any}
 use Rattle.std.specs.Option.{option_map}
@@ -12,16 +12,14 @@ use Rattle.std.proofs.lemmas.Map.Made.{length-from_same_keys}
 use Rattle.ws_model.specs.declared.event.Event.{Event}
 use Rattle.ws_model.specs.declared.event.Intent.{Intent}
 use Rattle.ws_model.specs.declared.event.What.{What}
-use Rattle.ws_model.specs.declared.fate.Cause.TheVariants.{Expired}
 use Rattle.ws_model.specs.declared.fate.Fate.{Fate}
 use Rattle.ws_model.specs.declared.fate.Fate.TheVariants.{Owed, Answered as IsAnswered, Ended as HasEnded}
 use Rattle.ws_model.specs.Account.{tallies_of}
-use Rattle.ws_model.specs.Fate.{delay, fate, is_done, is_owed, is_push, is_push_of, misses, next}
+use Rattle.ws_model.specs.Fate.{delay, fate, is_done, is_owed, is_push, is_push_of, misses}
 use Rattle.ws_model.specs.History.{has}
 use Rattle.ws_model.specs.Leases.{confirmed_intent, end_by, lease_end}
 use Rattle.ws_model.specs.Legal.{Legal}
 use Rattle.ws_model.specs.Pairs.{owed, pairs}
-use Rattle.ws_model.specs.Verdict.{fate_of}
 use Rattle.ws_model.specs.View.{OwedPush, owed_push, view}
 use Rattle.ws_laws.specs.Steps.{is_missed, new_pushes, stays_owed, turn}
 use Rattle.ws_laws.proofs.Advance.{is_owed_parts}
@@ -35,7 +33,7 @@ use Rattle.ws_delivery.proofs.Standing.{owed_apart, same_push}
 use Rattle.ws_fate.specs.declared.totals.Standing.{Standing}
 use Rattle.ws_fate.specs.declared.totals.Standing.TheVariants.{Open, Answered, Ended}
 use Rattle.ws_fate.specs.Rows.{standing_at}
-use Rattle.ws_fate.specs.Stands.{by_event, is_pair, standing_after}
+use Rattle.ws_fate.specs.Stands.{by_event, is_pair}
 use Rattle.ws_fate.specs.Totals.{standing}
 use Rattle.ws_core_tables.specs.Stands.{StandsFor as TablesStand}
 use Rattle.ws_core_tables.proofs.Stepped.{pushes}

@@ -3,7 +3,7 @@ use Rattle.std.proofs.Common.{◌≡◌, ℕ, suc, ◌+◌, ◌≤◌, Bool, tru
 use Rattle.std.specs.Prelude.{nat_le, is_some, ◌==◌, Option, Some, None, IfSome, filter, find}
 use Rattle.std.specs.List.{AllByRecursion, IsDistinct, list_any}
 use Rattle.std.specs.Option.{option_map}
-use Rattle.std.proofs.lemmas.Bool.{and_parts, eqb-true, false≢true}
+use Rattle.std.proofs.lemmas.Bool.{eqb-true, false≢true}
 use Rattle.std.proofs.lemmas.Bool.Decides.{nat_tests}
 use Rattle.std.proofs.lemmas.List.{length-map}
 use Rattle.ws_model.specs.declared.event.Event.{Event}
@@ -20,12 +20,10 @@ use Rattle.ws_model.specs.View.{OwedPush, owed_push}
 use Rattle.ws_laws.specs.Steps.{is_missed, turn}
 use Rattle.ws_laws.proofs.Follow.{some_found}
 use Rattle.ws_laws.proofs.ListLaws.{all_weaker}
-use Rattle.ws_delivery.specs.declared.open_pair.OpenPair.{OpenPair}
 use Rattle.ws_delivery.specs.OpenOf.{open_versions}
 use Rattle.ws_delivery.specs.Stands.{StandsFor as DeliveriesStand, shown}
 use Rattle.ws_delivery.specs.Table.{Rows as DeliveryRows, owed_at, pair_at}
 use Rattle.ws_delivery.proofs.OpenVersions.{member_open}
-use Rattle.ws_fate.specs.declared.totals.Standing.{Standing}
 use Rattle.ws_fate.specs.declared.totals.Standing.TheVariants.{Open, Ended}
 use Rattle.ws_fate.specs.Rows.{standing_at}
 use Rattle.ws_fate.specs.Stands.{is_pair}

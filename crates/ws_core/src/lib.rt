@@ -1,10 +1,14 @@
-//! The hub's core: the tables with what became of each pair. It says what may follow, what is due, what a
-//! request makes and what became of each pair, and applies the ends of pushes.
+//! The hub's core: the tables with what became of each pair. It applies what happened, and says what may
+//! follow, what is due, what a request makes and what became of each pair.
 #![tactic(auto)]
 
 mod accepting;
+mod applying;
 mod asking;
+mod births;
+mod confirmed;
 mod ends;
+mod fetched;
 pub mod laws;
 mod looking;
 mod pushed;

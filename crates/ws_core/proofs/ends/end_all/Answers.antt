@@ -1,7 +1,6 @@
-use Rattle.std.proofs.Common.{ap, sym, ◌∙◌, subst, drop, arith}
-use Rattle.std.specs.Prelude.{Some, None, IfSome, get_or}
+use Rattle.std.proofs.Common.{◌∙◌, subst, arith}
+use Rattle.std.specs.Prelude.{Some}
 use Rattle.std.proofs.lemmas.List.{at_drop_more}
-use Rattle.ws_fate.specs.declared.totals.Standing.TheVariants.{Open}
 use Rattle.ws_core.proofs.Lists.{AreChanged, next_listed, next_same}
 use Rattle.ws_core.proofs.ends.end_all.Goals as goal
 

@@ -1,6 +1,6 @@
-use Rattle.std.proofs.Common.{◌≡◌, ap, sym, ◌∙◌, subst, refl, length, ◌+◌}
+use Rattle.std.proofs.Common.{ap, sym, ◌∙◌, subst, length, ◌+◌}
 use Rattle.std.specs.Prelude.{Some, ◌==◌}
-use Rattle.std.specs.List.{IsDistinct, list_any}
+use Rattle.std.specs.List.{list_any}
 use Rattle.std.proofs.lemmas.Bool.{and_parts}
 use Rattle.ws_core.specs.Pairs.{with_lease, with_many}
 use Rattle.ws_core.proofs.Lists.{AreChanged, changed_none, next_listed, next_same}

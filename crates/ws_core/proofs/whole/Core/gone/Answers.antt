@@ -1,10 +1,9 @@
-use Rattle.std.proofs.Common.{◌≡◌, ap, sym, ◌∙◌, subst, length}
-use Rattle.std.specs.Prelude.{Some, ◌==◌, ◌&&◌, cond, true}
-use Rattle.std.specs.List.{IsDistinct, list_any}
+use Rattle.std.proofs.Common.{sym, subst}
+use Rattle.std.specs.Prelude.{◌==◌}
+use Rattle.std.specs.List.{IsDistinct}
 use Rattle.ws_model.specs.declared.fate.Cause.TheVariants.{Gone as LeaseGone}
 use Rattle.ws_delivery.specs.OpenOf.{open_versions}
 use Rattle.ws_fate.specs.declared.totals.Standing.TheVariants.{Ended}
-use Rattle.ws_core.specs.Pairs.{is_listed, with_lease, with_many}
 use Rattle.ws_core.specs.Rows.{Rows}
 use Rattle.ws_core.specs.Stands.{CanFollow, GoesOn}
 use Rattle.ws_core.proofs.ByKind.{gone_enough, gone_open, gone_stands, versions_closed}

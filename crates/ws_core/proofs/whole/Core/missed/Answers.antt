@@ -1,4 +1,4 @@
-use Rattle.std.proofs.Common.{◌≡◌, ℕ, ◌+◌, arith, Bool, true, false, sym, ap, ◌∙◌, subst, refl}
+use Rattle.std.proofs.Common.{◌≡◌, ℕ, ◌+◌, arith, true, false, sym, ap, ◌∙◌, subst, refl}
 use Rattle.ws_model.specs.declared.event.How.TheVariants.{Missed}
 use Rattle.ws_core_tables.specs.Stands.{GoesOn as TablesGoOn}
 use Rattle.ws_core.specs.Rows.{Rows}

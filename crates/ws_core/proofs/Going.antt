@@ -104,6 +104,18 @@ expired_twice k m c = λ j.
 
 -- ---- what stands at one moment
 
+-- what became of pairs, at one moment
+pub record PairsAt (h : List Event) (t : ℕ) (rows : Rows) : Type 0 where
+  pub shows : (v n : ℕ) → standing_at v n rows.fates ≡ option_map kept (option_map standing (fate_of h v n t))
+  pub enough : length (owed h t) ≤ rows.open_pairs
+  pub totals : with_expired (rows.open_pairs - length (owed h t)) rows.fates.totals ≡ of_account (account h t)
+
+-- and from it on
+pub record PairsFor (h : List Event) (since : ℕ) (rows : Rows) : Type 0 where
+  pub shows : (t v n : ℕ) → since ≤ t → standing_at v n rows.fates ≡ option_map kept (option_map standing (fate_of h v n t))
+  pub enough : (t : ℕ) → since ≤ t → length (owed h t) ≤ rows.open_pairs
+  pub totals : (t : ℕ) → since ≤ t → with_expired (rows.open_pairs - length (owed h t)) rows.fates.totals ≡ of_account (account h t)
+
 pub record StandsAt (h : List Event) (t : ℕ) (rows : Rows) : Type 0 where
   pub tables : TablesStand h t rows.tables
   pub shows : (v n : ℕ) → standing_at v n rows.fates ≡ option_map kept (option_map standing (fate_of h v n t))
@@ -116,11 +128,9 @@ no_more a b k number e l = omega arith
 the_rest : (a b k number : ℕ) → a + k ≡ b → b ≤ number → (number - b) + k ≡ number - a
 the_rest a b k number e l = omega arith
 
--- stands from it on
-pub from_then_on : (h : List Event) (t : ℕ) (rows : Rows) → StandsAt h t rows → StandsFor h t rows
-from_then_on h t rows s =
+pub pairs_from_then_on : (h : List Event) (t : ℕ) (rows : Rows) → PairsAt h t rows → PairsFor h t rows
+pairs_from_then_on h t rows s =
     record {
-      tables = s.tables;
       shows = λ u v n le. s.shows v n ∙ shown_later h t u v n le;
       enough = λ u le. no_more (length (owed h u)) (length (owed h t)) (expiring (view h t) u) rows.open_pairs (number_later h t u le) s.enough;
       totals = λ u le.
@@ -129,6 +139,12 @@ from_then_on h t rows s =
           ∙ ap (with_expired (expiring (view h t) u)) s.totals
           ∙ totals_later h t u le;
     }
+
+-- stands from it on
+pub from_then_on : (h : List Event) (t : ℕ) (rows : Rows) → StandsAt h t rows → StandsFor h t rows
+from_then_on h t rows s =
+    let pairs = pairs_from_then_on h t rows (record { shows = s.shows; enough = s.enough; totals = s.totals }) in
+    record { tables = s.tables; shows = pairs.shows; enough = pairs.enough; totals = pairs.totals }
 
 -- ---- what an event makes of an owed pair
 
@@ -329,12 +345,16 @@ quiet_owed e h l quiet =
     ∙ filter_same (λ p. is_owed (fate (e ∷ h) p e.t)) (λ p. is_owed (fate h p e.t)) (pairs h)
     (all_weaker (λ p. IsKnown h p × IsToldPair h p) (λ p. is_owed (fate (e ∷ h) p e.t) ≡ is_owed (fate h p e.t)) (λ p known. ap is_owed (quiet_fate e h l quiet p known)) (pairs h) (known_and_told e h l))
 
+pub pairs_quiet : (e : Event) (h : List Event) (since : ℕ) (rows : Rows) → PairsFor h since rows → Legal (e ∷ h) → since ≤ e.t → is_quiet e.what ≡ true → PairsFor (e ∷ h) e.t rows
+pairs_quiet e h since rows s l le quiet =
+    pairs_from_then_on (e ∷ h) e.t rows (record {
+      shows = λ v n. s.shows e.t v n le ∙ ap (λ o. option_map kept (option_map standing o)) (quiet_shows e h l quiet v n);
+      enough = subst (λ k. k ≤ rows.open_pairs) (ap length (sym (quiet_owed e h l quiet))) (s.enough e.t le);
+      totals = ap (λ ps. with_expired (rows.open_pairs - length ps) rows.fates.totals) (quiet_owed e h l quiet) ∙ s.totals e.t le ∙ quiet_totals e h l quiet;
+    })
+
 pub goes_on_quiet : (e : Event) (h : List Event) (since : ℕ) (old : Rows) (tables : TableRows) → StandsFor h since old → Legal (e ∷ h) → since ≤ e.t → is_quiet e.what ≡ true → TablesStand (e ∷ h) e.t tables
     → StandsFor (e ∷ h) e.t (record { tables = tables; fates = old.fates; open_pairs = old.open_pairs })
 goes_on_quiet e h since old tables s l le quiet stand =
-    from_then_on (e ∷ h) e.t (record { tables = tables; fates = old.fates; open_pairs = old.open_pairs }) (record {
-      tables = stand;
-      shows = λ v n. s.shows e.t v n le ∙ ap (λ o. option_map kept (option_map standing o)) (quiet_shows e h l quiet v n);
-      enough = subst (λ k. k ≤ old.open_pairs) (ap length (sym (quiet_owed e h l quiet))) (s.enough e.t le);
-      totals = ap (λ ps. with_expired (old.open_pairs - length ps) old.fates.totals) (quiet_owed e h l quiet) ∙ s.totals e.t le ∙ quiet_totals e h l quiet;
-    })
+    let pairs = pairs_quiet e h since old (record { shows = s.shows; enough = s.enough; totals = s.totals }) l le quiet in
+    record { tables = stand; shows = pairs.shows; enough = pairs.enough; totals = pairs.totals }

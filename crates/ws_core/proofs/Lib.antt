@@ -12,3 +12,4 @@ pub mod Needed
 pub mod ByKind
 pub mod Lists
 pub mod OwedPairs
+pub mod Together

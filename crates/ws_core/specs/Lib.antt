@@ -4,3 +4,4 @@ pub mod Pairs
 pub mod Rows
 pub mod Spent
 pub mod Stands
+pub mod Committing

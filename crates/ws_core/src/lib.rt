@@ -6,6 +6,7 @@ mod accepting;
 mod applying;
 mod asking;
 mod births;
+mod committing;
 mod confirmed;
 mod ends;
 mod fetched;

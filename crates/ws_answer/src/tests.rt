@@ -47,6 +47,14 @@ fn told(alloc: Global, ask: &Ask, prefix: &str) -> Result<(usize, u64, bool), Co
     Ok((events.len(), number, is_barred))
 }
 
+// Whether a revocation ends anything.
+fn is_revoked(alloc: Global) -> Result<bool, NoMemory> {
+    let topic = bytes(alloc, "http://pub.example/x")?;
+    let callback = bytes(alloc, "http://sub.example/cb")?;
+    let event = revocation(alloc, &Tables::empty(alloc), 1000, &topic, &callback)?;
+    Ok(event.is_some())
+}
+
 #[test]
 fn requests_of_nothing(rt: HostRuntime) -> Result<(), Fail> {
     let alloc = rt.alloc();
@@ -61,9 +69,6 @@ fn requests_of_nothing(rt: HostRuntime) -> Result<(), Fail> {
     topics.push(bytes(alloc, "http://pub.example/x")?)?;
     let ping = Ask::Publish { topics };
     assert_eq!(rt; told(alloc, &ping, ""), Ok((0, 0, false)));
-    let topic = bytes(alloc, "http://pub.example/x")?;
-    let callback = bytes(alloc, "http://sub.example/cb")?;
-    let revoked = revocation(alloc, &Tables::empty(alloc), 1000, &topic, &callback)?;
-    assert!(rt; revoked.is_none());
+    assert_eq!(rt; is_revoked(alloc), Ok(false));
     Ok(())
 }

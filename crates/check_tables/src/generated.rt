@@ -9,7 +9,7 @@ use std::alloc::Global;
 use std::test::Fail;
 use ws_model::{Event, Fate, How, Intent, Mode, NoMemory, What};
 
-const HISTORIES: usize = 300;
+const HISTORIES: usize = 100;
 
 const EVENTS: usize = 40;
 

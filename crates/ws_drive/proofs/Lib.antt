@@ -1,5 +1,3 @@
 pub mod Known
-pub mod Lines
-pub mod Reading
-pub mod Happenings
+pub mod Worlds
 pub mod Runs

@@ -1,65 +1,57 @@
 -- What has been played so far, and what a run is at each of its ends.
-use Rattle.std.proofs.Common.{◌≡◌, ℕ, suc, ◌+◌, ◌^◌, ◌<◌, ◌≤◌, false, List, [], ◌∷◌, ◌++◌, map, length, refl, sym, ap, ◌∙◌, subst, append_assoc, length-append, Option, Some, None, Result, Ok, Err, IfSome, inl, inr, arith}
+use Rattle.std.proofs.Common.{◌≡◌, ℕ, ◌+◌, ◌^◌, ◌<◌, ◌≤◌, Bool, false, List, [], ◌∷◌, ◌++◌, length, refl, sym, ap, ◌∙◌, subst, append_assoc, length-append, Option, Some, None, IfSome, inl, inr, arith}
 use Rattle.std.specs.List.{AllByRecursion}
 use Rattle.std.specs.Io.KnownBytes.{Consumes, Appends}
-use Rattle.std.proofs.lemmas.List.{append-nil, map-append}
-use Rattle.ws_model.specs.declared.event.Event.{Event}
-use Rattle.ws_model.specs.declared.event.Intent.{Intent}
+use Rattle.std.proofs.lemmas.List.{append-nil}
 use Rattle.ws_model.specs.declared.settings.Settings.{Settings}
 use Rattle.ws_link.specs.declared.status.Status.TheVariants as status
-use Rattle.ws_model.specs.Moment.{intent_number}
-use Rattle.ws_form.specs.declared.ask.Ask.{Ask}
-use Rattle.ws_form.specs.declared.fault.AskFault.{AskFault}
-use Rattle.ws_drive.specs.declared.script.Happening.{Happening}
-use Rattle.ws_drive.specs.declared.script.Happening.TheVariants as happens
-use Rattle.ws_drive.specs.Script.{IsHappening, text, texts, NoneBegins, is_end, most_happenings}
-use Rattle.ws_drive.specs.Moves.{AppendsSome, ConsumesSome, IsPrefix}
-use Rattle.ws_drive.specs.World.{World, Choice, start, now, output, with_intent, intent_for, ask_at, after, after_ask, after_form, after_all, transcript}
+use Rattle.ws_front.specs.Moves.{AppendsSome}
+use Rattle.ws_script.specs.declared.happening.Happening.{Happening}
+use Rattle.ws_script.specs.declared.happening.Happening.TheVariants as happens
+use Rattle.ws_script.specs.Script.{IsHappening, text, texts, NoneBegins, is_end}
+use Rattle.ws_script.specs.Moves.{ConsumesSome}
+use Rattle.ws_drive.specs.World.{World, start, Plays, AllPlay}
 use Rattle.ws_drive.specs.Steps.{ReadsPlayable}
-use Rattle.ws_drive.specs.Runs.{Played, happenings_of, IsPlayed, Runs}
+use Rattle.ws_drive.specs.Runs.{IsPlayed, Runs}
 use Rattle.ws_drive.proofs.Known.{Consumes-then, Appends-then, Consumes-none, Appends-none}
 
-IsPlayable : Choice × Happening → Type 0
-IsPlayable p = IsHappening p.1 × (is_end p.1 ≡ false)
+IsPlayable : Bool → Happening → Type 0
+IsPlayable gateway h = IsHappening gateway h × (is_end h ≡ false)
 
-texts-append : (hs ks : List Happening) → texts (hs ++ ks) ≡ texts hs ++ texts ks
-texts-append [] ks = refl
-texts-append (h ∷ hs) ks = ap (λ t. text h ++ t) (texts-append hs ks) ∙ sym (append_assoc (text h) (texts hs) (texts ks))
+texts_push : (played : List Happening) (h : Happening) → texts (played ++ h ∷ []) ≡ texts played ++ text h
+texts_push [] h = append-nil (text h)
+texts_push (k ∷ played) h = ap (λ t. text k ++ t) (texts_push played h) ∙ sym (append_assoc (text k) (texts played) (text h))
 
-texts_push : (played : Played) (choice : Choice) (h : Happening) → texts (happenings_of (played ++ (choice, h) ∷ [])) ≡ texts (happenings_of played) ++ text h
-texts_push played choice h =
-    ap texts (map-append (λ (p : Choice × Happening). p.1) played ((choice, h) ∷ [])) ∙ texts-append (happenings_of played) (h ∷ [])
-    ∙ ap (λ t. texts (happenings_of played) ++ t) (append-nil (text h))
+all_play_push : (w next w' : World) (played : List Happening) (h : Happening) (out bytes : List ℕ) → AllPlay w played out next → Plays next h bytes w' → AllPlay w (played ++ h ∷ []) (out ++ bytes) w'
+all_play_push w next w' [] h out bytes p q =
+    (bytes, w', subst (λ v. Plays v h bytes w') p.1 q, [], (refl, refl), ap (λ o. o ++ bytes) p.0 ∙ sym (append-nil bytes))
+all_play_push w next w' (k ∷ played) h out bytes p q = (
+  p.0,
+  p.1,
+  p.2,
+  p.3 ++ bytes,
+  all_play_push p.1 next w' played h p.3 bytes p.4 q,
+  ap (λ o. o ++ bytes) p.5 ∙ append_assoc p.0 p.3 bytes,
+)
 
-after_all_push : (w : World) (played : Played) (choice : Choice) (h : Happening) → after_all w (played ++ (choice, h) ∷ []) ≡ after (after_all w played) choice h
-after_all_push w [] choice h = refl
-after_all_push w (p ∷ ps) choice h = after_all_push (after w p.0 p.1) ps choice h
-
-transcript_push : (w : World) (played : Played) (choice : Choice) (h : Happening) → transcript w (played ++ (choice, h) ∷ []) ≡ transcript w played ++ output (after_all w played) choice h
-transcript_push w [] choice h = append-nil (output w choice h)
-transcript_push w (p ∷ ps) choice h =
-    ap (λ t. output w p.0 p.1 ++ t) (transcript_push (after w p.0 p.1) ps choice h)
-    ∙ sym (append_assoc (output w p.0 p.1) (transcript (after w p.0 p.1) ps) (output (after_all (after w p.0 p.1) ps) choice h))
-
-all_push : (P : Choice × Happening → Type 0) (played : Played) (p : Choice × Happening) → AllByRecursion P played → P p → AllByRecursion P (played ++ p ∷ [])
-all_push P [] p all here = (here, tt)
-all_push P (q ∷ qs) p all here = (all.0, all_push P qs p all.1 here)
+all_push : (P : Happening → Type 0) (played : List Happening) (h : Happening) → AllByRecursion P played → P h → AllByRecursion P (played ++ h ∷ [])
+all_push P [] h all here = (here, tt)
+all_push P (k ∷ played) h all here = (all.0, all_push P played h all.1 here)
 
 -- i happenings were played: their texts were read and their transcript was written
 pub record SoFar (settings : Settings) (left left' written written' : Option (List ℕ)) (i : ℕ) (w : World) : Type 0 where
   pub taken : List ℕ
   pub out : List ℕ
-  pub played : Played
+  pub played : List Happening
   pub consumed : Consumes left left' taken
   pub appended : Appends written written' out
   pub count : length played ≡ i
-  pub sound : AllByRecursion (λ (p : Choice × Happening). IsHappening p.1 × (is_end p.1 ≡ false)) played
-  pub read : taken ≡ texts (happenings_of played)
-  pub wrote : out ≡ transcript (start settings) played
-  pub reached : w ≡ after_all (start settings) played
+  pub sound : AllByRecursion (λ h. IsHappening settings.policy.gateway h × (is_end h ≡ false)) played
+  pub read : taken ≡ texts played
+  pub wrote : AllPlay (start settings) played out w
 
-pub started : (settings : Settings) (left left' written written' : Option (List ℕ)) (w : World) → left' ≡ left → written' ≡ written → w ≡ start settings → SoFar settings left left' written written' 0 w
-started settings left left' written written' w p q e = record {
+pub started : (settings : Settings) (left left' written written' : Option (List ℕ)) → left' ≡ left → written' ≡ written → SoFar settings left left' written written' 0 (start settings)
+started settings left left' written written' p q = record {
   taken = [];
   out = [];
   played = [];
@@ -68,116 +60,108 @@ started settings left left' written written' w p q e = record {
   count = refl;
   sound = tt;
   read = refl;
-  wrote = refl;
-  reached = e;
+  wrote = (refl, refl);
 }
 
-pub goes_on : (settings : Settings) (left left' left'' written written' written'' : Option (List ℕ)) (i : ℕ) (w w' : World) (h : Happening) (choice : Choice) → SoFar settings left left' written written' i w → ReadsPlayable left' left'' h → Appends written' written'' (output w choice h) → w' ≡ after w choice h → SoFar settings left left'' written written'' (i + 1) w'
-goes_on settings left left' left'' written written' written'' i w w' h choice s reads writes e = record {
-  taken = s.taken ++ text h;
-  out = s.out ++ output w choice h;
-  played = s.played ++ (choice, h) ∷ [];
-  consumed = Consumes-then left left' left'' s.taken (text h) s.consumed reads.0;
-  appended = Appends-then written written' written'' s.out (output w choice h) s.appended writes;
-  count = omega (arith, s.count, length-append s.played ((choice, h) ∷ []));
-  sound = all_push _ s.played (choice, h) s.sound (reads.1, reads.2);
-  read = ap (λ t. t ++ text h) s.read ∙ sym (texts_push s.played choice h);
-  wrote = ap (λ t. t ++ output w choice h) s.wrote ∙ ap (λ v. transcript (start settings) s.played ++ output v choice h) s.reached ∙ sym (transcript_push (start settings) s.played choice h);
-  reached = e ∙ ap (λ v. after v choice h) s.reached ∙ sym (after_all_push (start settings) s.played choice h);
-}
+module _ (settings : Settings) (left left' left'' written written' written'' : Option (List ℕ)) (i : ℕ) (w : World) (s : SoFar settings left left' written written' i w) where
+  abbrev gateway : Bool
+  gateway = settings.policy.gateway
 
-was_played : (settings : Settings) (left left' written written' : Option (List ℕ)) (i : ℕ) (w : World) → i ≤ 2 ^ 40 → (s : SoFar settings left left' written written' i w) → IsPlayed s.played
-was_played settings left left' written written' i w few s = record { sound = s.sound; few = omega (arith, s.count) }
+  pub goes_on : (w' : World) (h : Happening) (bytes : List ℕ) → ReadsPlayable gateway left' left'' h → Appends written' written'' bytes → Plays w h bytes w' → SoFar settings left left'' written written'' (i + 1) w'
+  goes_on w' h bytes reads writes plays = record {
+    taken = s.taken ++ text h;
+    out = s.out ++ bytes;
+    played = s.played ++ h ∷ [];
+    consumed = Consumes-then left left' left'' s.taken (text h) s.consumed reads.0;
+    appended = Appends-then written written' written'' s.out bytes s.appended writes;
+    count = omega (arith, s.count, length-append s.played (h ∷ []));
+    sound = all_push _ s.played h s.sound (reads.1, reads.2);
+    read = ap (λ t. t ++ text h) s.read ∙ sym (texts_push s.played h);
+    wrote = all_play_push (start settings) w w' s.played h s.out bytes s.wrote plays;
+  }
 
-if_told : {P : List ℕ → Type 0} (o : Option (List ℕ)) → ((xs : List ℕ) → P xs) → IfSome o P
-if_told None f = tt
-if_told (Some xs) f = f xs
+  was_played : i ≤ 2 ^ 40 → IsPlayed gateway s.played
+  was_played few = record { sound = s.sound; few = omega (arith, s.count) }
 
-pub ends : (settings : Settings) (left left' left'' written written' written'' : Option (List ℕ)) (i : ℕ) (w : World) → i < 2 ^ 40 → SoFar settings left left' written written' i w → Consumes left' left'' (text happens.End) → Appends written' written'' [] → Runs settings left left'' written written'' status.Ok
-ends settings left left' left'' written written' written'' i w few s read wrote = (
-  s.taken ++ text happens.End,
-  s.out ++ [],
-  Consumes-then left left' left'' s.taken (text happens.End) s.consumed read,
-  Appends-then written written' written'' s.out [] s.appended wrote,
-  if_told left (λ input. (s.played, was_played _ _ _ _ _ i w (omega arith) s, omega (arith, s.count), ap (λ t. t ++ text happens.End) s.read, append-nil s.out ∙ s.wrote)),
-)
+  if_told : {P : List ℕ → Type 0} (o : Option (List ℕ)) → ((xs : List ℕ) → P xs) → IfSome o P
+  if_told None f = tt
+  if_told (Some xs) f = f xs
 
-left_at : (left left' : Option (List ℕ)) (taken : List ℕ) (P : List ℕ → Type 0) (Q : List ℕ → Type 0) → Consumes left left' taken → IfSome left' P → ((input rest : List ℕ) → input ≡ taken ++ rest → P rest → Q input) → IfSome left Q
-left_at None left' taken P Q c p f = tt
-left_at (Some xs) None taken P Q c p f = absurd c
-left_at (Some xs) (Some ys) taken P Q c p f = f xs ys c p
+  left_at : (a b : Option (List ℕ)) (taken : List ℕ) (P : List ℕ → Type 0) (Q : List ℕ → Type 0) → Consumes a b taken → IfSome b P → ((input rest : List ℕ) → input ≡ taken ++ rest → P rest → Q input) → IfSome a Q
+  left_at None b taken P Q c p f = tt
+  left_at (Some xs) None taken P Q c p f = absurd c
+  left_at (Some xs) (Some ys) taken P Q c p f = f xs ys c p
 
-pub leaves : (settings : Settings) (left left' left'' written written' written'' : Option (List ℕ)) (i number : ℕ) (w : World) → i < 2 ^ 40 → number ≡ i + 1 → SoFar settings left left' written written' i w → ConsumesSome left' left'' (λ read. Unit {0}) → IfSome left' NoneBegins → Appends written' written'' [] → Runs settings left left'' written written'' (status.Script number)
-leaves settings left left' left'' written written' written'' i number w few is s read none wrote = (
-  s.taken ++ read.0,
-  s.out ++ [],
-  Consumes-then left left' left'' s.taken read.0 s.consumed read.1,
-  Appends-then written written' written'' s.out [] s.appended wrote,
-  left_at left left' s.taken NoneBegins _ s.consumed none
-      (λ input rest e n. (s.played, was_played _ _ _ _ _ i w (omega arith) s, omega (arith, s.count), rest, e ∙ ap (λ t. t ++ rest) s.read, inl n, append-nil s.out ∙ s.wrote)),
-)
+  same_out : Appends written' written'' [] → Appends written written'' s.out
+  same_out wrote = subst (Appends written written'') (append-nil s.out) (Appends-then written written' written'' s.out [] s.appended wrote)
 
-pub leaves_long : (settings : Settings) (left left' written written' : Option (List ℕ)) (i number : ℕ) (w : World) → i ≡ 2 ^ 40 → number ≡ i + 1 → SoFar settings left left' written written' i w → Runs settings left left' written written' (status.Script number)
-leaves_long settings left left' written written' i number w all is s = (
-  s.taken,
-  s.out,
-  s.consumed,
-  s.appended,
-  left_at left left' s.taken (λ rest. Unit {0}) _ s.consumed (if_told left' (λ rest. tt))
-      (λ input rest e n. (s.played, was_played _ _ _ _ _ i w (omega arith) s, omega (arith, s.count), rest, e ∙ ap (λ t. t ++ rest) s.read, inr (s.count ∙ all), s.wrote)),
-)
+  module _ (few : i < 2 ^ 40) where
+    pub ends : Consumes left' left'' (text happens.End) → Appends written' written'' [] → Runs settings left left'' written written'' status.Ok
+    ends read wrote = (
+      s.taken ++ text happens.End,
+      s.out,
+      Consumes-then left left' left'' s.taken (text happens.End) s.consumed read,
+      same_out wrote,
+      if_told left (λ input. (s.played, was_played (omega arith), omega (arith, s.count), ap (λ t. t ++ text happens.End) s.read, (w, s.wrote))),
+    )
 
-pub read_fails : (settings : Settings) (left left' left'' written written' written'' : Option (List ℕ)) (i : ℕ) (w : World) → i < 2 ^ 40 → SoFar settings left left' written written' i w → ConsumesSome left' left'' NoneBegins → Appends written' written'' [] → Runs settings left left'' written written'' status.ReadFailed
-read_fails settings left left' left'' written written' written'' i w few s read wrote = (
-  s.taken ++ read.0,
-  s.out ++ [],
-  Consumes-then left left' left'' s.taken read.0 s.consumed read.1,
-  Appends-then written written' written'' s.out [] s.appended wrote,
-  if_told left (λ input. (s.played, was_played _ _ _ _ _ i w (omega arith) s, read.0, ap (λ t. t ++ read.0) s.read, read.2, append-nil s.out ∙ s.wrote)),
-)
+    pub leaves : (number : ℕ) → number ≡ i + 1 → ConsumesSome left' left'' (λ read. Unit {0}) → IfSome left' (NoneBegins gateway) → Appends written' written'' [] → Runs settings left left'' written written'' (status.Script number)
+    leaves number is read none wrote = (
+      s.taken ++ read.0,
+      s.out,
+      Consumes-then left left' left'' s.taken read.0 s.consumed read.1,
+      same_out wrote,
+      left_at left left' s.taken (NoneBegins gateway) _ s.consumed none
+          (λ input rest e n. (s.played, was_played (omega arith), omega (arith, s.count), rest, e ∙ ap (λ t. t ++ rest) s.read, inl n, (w, s.wrote))),
+    )
 
-pub wants : (settings : Settings) (left left' left'' written written' written'' : Option (List ℕ)) (i : ℕ) (w : World) → i < 2 ^ 40 → SoFar settings left left' written written' i w → ConsumesSome left' left'' (λ read. Unit {0}) → Appends written' written'' [] → Runs settings left left'' written written'' status.NoMemory
-wants settings left left' left'' written written' written'' i w few s read wrote = (
-  s.taken ++ read.0,
-  s.out ++ [],
-  Consumes-then left left' left'' s.taken read.0 s.consumed read.1,
-  Appends-then written written' written'' s.out [] s.appended wrote,
-  if_told left (λ input. (s.played, was_played _ _ _ _ _ i w (omega arith) s, read.0, ap (λ t. t ++ read.0) s.read, append-nil s.out ∙ s.wrote)),
-)
+    pub read_fails : ConsumesSome left' left'' (NoneBegins gateway) → Appends written' written'' [] → Runs settings left left'' written written'' status.ReadFailed
+    read_fails read wrote = (
+      s.taken ++ read.0,
+      s.out,
+      Consumes-then left left' left'' s.taken read.0 s.consumed read.1,
+      same_out wrote,
+      if_told left (λ input. (s.played, was_played (omega arith), read.0, ap (λ t. t ++ read.0) s.read, read.2, (w, s.wrote))),
+    )
 
-pub write_fails : (settings : Settings) (left left' left'' written written' written'' : Option (List ℕ)) (i : ℕ) (w : World) (h : Happening) (choice : Choice) → i < 2 ^ 40 → SoFar settings left left' written written' i w → ReadsPlayable left' left'' h → AppendsSome written' written'' (output w choice h) → Runs settings left left'' written written'' status.WriteFailed
-write_fails settings left left' left'' written written' written'' i w h choice few s reads wrote = (
-  s.taken ++ text h,
-  s.out ++ wrote.0,
-  Consumes-then left left' left'' s.taken (text h) s.consumed reads.0,
-  Appends-then written written' written'' s.out wrote.0 s.appended wrote.1,
-  if_told left (λ input. (
-    s.played,
-    choice,
-    h,
-    record { sound = all_push _ s.played (choice, h) s.sound (reads.1, reads.2); few = omega (arith, s.count, length-append s.played ((choice, h) ∷ [])) },
-    ap (λ t. t ++ text h) s.read,
-    wrote.0,
-    subst (λ v. IsPrefix wrote.0 (output v choice h)) s.reached wrote.2,
-    ap (λ t. t ++ wrote.0) s.wrote,
-  )),
-)
+    pub wants : ConsumesSome left' left'' (λ read. Unit {0}) → Appends written' written'' [] → Runs settings left left'' written written'' status.NoMemory
+    wants read wrote = (
+      s.taken ++ read.0,
+      s.out,
+      Consumes-then left left' left'' s.taken read.0 s.consumed read.1,
+      same_out wrote,
+      if_told left (λ input. (s.played, was_played (omega arith), read.0, ap (λ t. t ++ read.0) s.read, (w, s.wrote))),
+    )
 
-intent_events : (t : ℕ) (h : List Event) (intent : Option Intent) → length (with_intent t h intent) ≤ length h + 1
-intent_events t h None = omega arith
-intent_events t h (Some intent) = omega arith
+    pub write_fails : (w' : World) (h : Happening) (bytes : List ℕ) → ReadsPlayable gateway left' left'' h → Plays w h bytes w' → AppendsSome written' written'' bytes → Runs settings left left'' written written'' status.WriteFailed
+    write_fails w' h bytes reads plays wrote = (
+      s.taken ++ text h,
+      s.out ++ wrote.0,
+      Consumes-then left left' left'' s.taken (text h) s.consumed reads.0,
+      Appends-then written written' written'' s.out wrote.0 s.appended wrote.1,
+      if_told left (λ input. (
+        s.played,
+        h,
+        record { sound = all_push _ s.played h s.sound (reads.1, reads.2); few = omega (arith, s.count, length-append s.played (h ∷ [])) },
+        ap (λ t. t ++ text h) s.read,
+        s.out,
+        w,
+        s.wrote,
+        bytes,
+        w',
+        plays,
+        wrote.0,
+        wrote.2,
+        refl,
+      )),
+    )
 
-after_ask_events : (w : World) (r : Result Ask AskFault) → length (after_ask w r).history ≤ length w.history + 1
-after_ask_events w (Ok ask) = intent_events (now w) w.history (intent_for w.settings.policy.alg (intent_number w.history + 1) ask)
-after_ask_events w (Err fault) = omega arith
-
-after_form_events : (w : World) (choice : Choice) (body : List ℕ) → length (after_form w choice body).history ≤ length w.history + 1
-after_form_events w Choice.Made body = after_ask_events w (ask_at w body)
-after_form_events w Choice.Wanting body = omega arith
-
--- a happening adds at most one event
-pub events_after : (w : World) (choice : Choice) (h : Happening) → length (after w choice h).history ≤ length w.history + 1
-events_after w choice (happens.At t) = omega arith
-events_after w choice (happens.Form body) = after_form_events w choice body
-events_after w choice happens.Sum = omega arith
-events_after w choice happens.End = omega arith
+  pub leaves_long : (number : ℕ) → i ≡ 2 ^ 40 → number ≡ i + 1 → Runs settings left left' written written' (status.Script number)
+  leaves_long number all is = (
+    s.taken,
+    s.out,
+    s.consumed,
+    s.appended,
+    left_at left left' s.taken (λ rest. Unit {0}) _ s.consumed (if_told left' (λ rest. tt))
+        (λ input rest e n. (s.played, was_played (omega arith), omega (arith, s.count), rest, e ∙ ap (λ t. t ++ rest) s.read, inr (s.count ∙ all), (w, s.wrote))),
+  )

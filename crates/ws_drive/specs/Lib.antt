@@ -1,10 +1,7 @@
-pub mod Script
 pub mod AccountText
 pub mod World
-pub mod Moves
-pub mod Reading
-pub mod Desk
-pub mod Session
+pub mod Standing
+pub mod Output
 pub mod Stop
 pub mod Steps
 pub mod Runs

@@ -1,28 +1,25 @@
 -- What a run of a script does (own): the bytes that it took and those that it wrote, by its status.
-use Rattle.std.specs.Prelude.{◌≡◌, ◌<◌, ◌≤◌, ◌+◌, ℕ, false, List, [], ◌∷◌, ◌++◌, map, length, ◌⊎◌, Option, IfSome}
+use Rattle.std.specs.Prelude.{◌≡◌, ◌<◌, ◌≤◌, ◌+◌, ℕ, Bool, false, List, [], ◌∷◌, ◌++◌, length, ◌⊎◌, Option, IfSome}
 use Rattle.std.specs.List.{AllByRecursion}
 use Rattle.std.specs.Io.KnownBytes.{Consumes, Appends}
 use Rattle.ws_model.specs.Cause.{Rose}
+use Rattle.ws_model.specs.declared.settings.Settings.{Settings}
 use Rattle.ws_link.specs.declared.status.Status.{Status}
 use Rattle.ws_link.specs.declared.status.Status.TheVariants as status
-use Rattle.ws_model.specs.declared.settings.Settings.{Settings}
-use Rattle.ws_drive.specs.declared.script.Happening.{Happening}
-use Rattle.ws_drive.specs.declared.script.Happening.TheVariants as happens
-use Rattle.ws_drive.specs.Script.{IsHappening, text, texts, NoneBegins, is_end, most_happenings}
-use Rattle.ws_drive.specs.Moves.{IsPrefix}
-use Rattle.ws_drive.specs.World.{World, Choice, start, output, transcript, after_all}
-
--- happenings that were played, each beside its choice
-abbrev pub Played : Type 0
-Played = List (Choice × Happening)
-
-abbrev pub happenings_of : Played → List Happening
-happenings_of played = map (λ (p : Choice × Happening). p.1) played
+use Rattle.ws_front.specs.Moves.{IsPrefix}
+use Rattle.ws_script.specs.declared.happening.Happening.{Happening}
+use Rattle.ws_script.specs.declared.happening.Happening.TheVariants as happens
+use Rattle.ws_script.specs.Script.{IsHappening, text, texts, NoneBegins, is_end, most_happenings}
+use Rattle.ws_drive.specs.World.{World, start, Plays, AllPlay}
 
 -- each is within its bounds, none is `end`, and they are at most as many as a script has
-pub record IsPlayed (played : Played) : Type 0 where
-  pub sound : AllByRecursion (λ (p : Choice × Happening). IsHappening p.1 × (is_end p.1 ≡ false)) played
+pub record IsPlayed (gateway : Bool) (played : List Happening) : Type 0 where
+  pub sound : AllByRecursion (λ h. IsHappening gateway h × (is_end h ≡ false)) played
   pub few : length played ≤ most_happenings
+
+-- from an empty history they write this
+abbrev pub Writes : Settings → List Happening → List ℕ → Type 0
+Writes settings played out = (w : World) × AllPlay (start settings) played out w
 
 -- Ok: the script was read to the line feed of `end` and no further, and its transcript was written.
 -- Script: all happenings before that number were played, and what follows leaves the grammar or is
@@ -32,27 +29,28 @@ pub record IsPlayed (played : Played) : Type 0 where
 -- NoMemory: the transcript of what was played was written.
 abbrev pub IsRun : Settings → List ℕ → List ℕ → List ℕ → Status → Type 0
 IsRun settings input taken out status.Ok =
-    (played : Played) × IsPlayed played × (length played < most_happenings)
-    × (taken ≡ texts (happenings_of played) ++ text happens.End)
-    × (out ≡ transcript (start settings) played)
+    (played : List Happening) × IsPlayed settings.policy.gateway played × (length played < most_happenings)
+    × (taken ≡ texts played ++ text happens.End)
+    × Writes settings played out
 IsRun settings input taken out (status.Script number) =
-    (played : Played) × IsPlayed played × (number ≡ length played + 1)
-    × (rest : List ℕ) × (input ≡ texts (happenings_of played) ++ rest)
-    × (NoneBegins rest ⊎ (length played ≡ most_happenings))
-    × (out ≡ transcript (start settings) played)
+    (played : List Happening) × IsPlayed settings.policy.gateway played × (number ≡ length played + 1)
+    × (rest : List ℕ) × (input ≡ texts played ++ rest)
+    × (NoneBegins settings.policy.gateway rest ⊎ (length played ≡ most_happenings))
+    × Writes settings played out
 IsRun settings input taken out status.ReadFailed =
-    (played : Played) × IsPlayed played
-    × (cut : List ℕ) × (taken ≡ texts (happenings_of played) ++ cut) × NoneBegins cut
-    × (out ≡ transcript (start settings) played)
+    (played : List Happening) × IsPlayed settings.policy.gateway played
+    × (cut : List ℕ) × (taken ≡ texts played ++ cut) × NoneBegins settings.policy.gateway cut
+    × Writes settings played out
 IsRun settings input taken out status.WriteFailed =
-    (played : Played) × (choice : Choice) × (last : Happening) × IsPlayed (played ++ (choice, last) ∷ [])
-    × (taken ≡ texts (happenings_of played) ++ text last)
-    × (part : List ℕ) × IsPrefix part (output (after_all (start settings) played) choice last)
-    × (out ≡ transcript (start settings) played ++ part)
+    (played : List Happening) × (last : Happening) × IsPlayed settings.policy.gateway (played ++ last ∷ [])
+    × (taken ≡ texts played ++ text last)
+    × (before : List ℕ) × (w : World) × AllPlay (start settings) played before w
+    × (bytes : List ℕ) × (w' : World) × Plays w last bytes w'
+    × (part : List ℕ) × IsPrefix part bytes × (out ≡ before ++ part)
 IsRun settings input taken out status.NoMemory =
-    (played : Played) × IsPlayed played
-    × (cut : List ℕ) × (taken ≡ texts (happenings_of played) ++ cut)
-    × (out ≡ transcript (start settings) played)
+    (played : List Happening) × IsPlayed settings.policy.gateway played
+    × (cut : List ℕ) × (taken ≡ texts played ++ cut)
+    × Writes settings played out
 IsRun settings input taken out other = ⊥
 
 -- what a run with these settings did to a source and a sink that tell

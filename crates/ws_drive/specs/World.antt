@@ -1,26 +1,28 @@
--- What a script does and writes (own): a fold over its happenings, each with a choice.
-use Rattle.std.specs.Prelude.{ℕ, ◌+◌, ◌-◌, ◌^◌, min, max, List, [], ◌∷◌, ◌++◌, Option, Some, None, Result, Ok, Err, codes}
-use Rattle.ws_model.specs.declared.event.Alg.{Alg}
+-- What the happenings of a script do to a hub, and what each writes (own).
+use Rattle.std.specs.Prelude.{◌≡◌, ◌≢◌, ◌⊎◌, ℕ, ◌+◌, min, max, Bool, true, false, if◌then◌else◌, ◌==◌, List, [], ◌∷◌, ◌++◌, length, Option, Some, Result, Ok, Err, codes}
+use Rattle.std.specs.Fmt.{decimal}
 use Rattle.ws_model.specs.declared.event.Event.{Event}
-use Rattle.ws_model.specs.declared.event.Intent.{Intent}
-use Rattle.ws_model.specs.declared.event.What.TheVariants.{Asked}
-use Rattle.ws_model.specs.declared.event.Mode.TheVariants.{Off, On}
+use Rattle.ws_model.specs.declared.event.What.{What}
 use Rattle.ws_model.specs.declared.settings.Settings.{Settings}
-use Rattle.ws_model.specs.Moment.{time, serial, intent_number}
 use Rattle.ws_model.specs.Account.{account}
-use Rattle.ws_form.specs.declared.ask.Ask.{Ask}
-use Rattle.ws_form.specs.declared.ask.Ask.TheVariants.{Subscribe, Unsubscribe, Publish}
+use Rattle.ws_model.specs.Answer.{Answer, Events, Full}
+use Rattle.ws_model.specs.Moment.{time}
 use Rattle.ws_form.specs.declared.fault.AskFault.{AskFault}
-use Rattle.ws_form.specs.FaultText.{fault_text}
+use Rattle.ws_form.specs.declared.fault.AskFault.TheVariants.{NoMemory as Starved}
 use Rattle.ws_form.specs.Form.{ask_in}
-use Rattle.ws_drive.specs.declared.script.Happening.{Happening}
-use Rattle.ws_drive.specs.declared.script.Happening.TheVariants as happens
+use Rattle.ws_port.specs.declared.fault.DeskFault.{DeskFault}
+use Rattle.ws_port.specs.declared.fault.DeskFault.TheVariants.{Disk, Full as IsFull, NoMemory}
+use Rattle.ws_port.specs.declared.port.Told.{Told}
+use Rattle.ws_port.specs.Calls.{committed, last_moment}
+use Rattle.ws_port.specs.Requests.{answer, revocation_answer}
+use Rattle.ws_front.specs.declared.served.Served.{Served}
+use Rattle.ws_front.specs.declared.served.Served.TheVariants as how
+use Rattle.ws_front.specs.Answers.{Response, Heard, nothing, wanting, request, FormAnswers, desk_response, fault_response, no_memory}
+use Rattle.ws_front.specs.Connection.{IsServed}
+use Rattle.ws_front.specs.Moves.{IsPrefix}
+use Rattle.ws_script.specs.declared.happening.Happening.{Happening}
+use Rattle.ws_script.specs.declared.happening.Happening.TheVariants as happens
 use Rattle.ws_drive.specs.AccountText.{account_text}
-
--- how a happening went: there was memory for it, or there was none
-pub data Choice : Type 0 where
-  Made : Choice
-  Wanting : Choice
 
 -- the settings, the clock, the last hub time used, and the history, newest first
 pub record World : Type 0 where
@@ -32,109 +34,102 @@ pub record World : Type 0 where
 abbrev pub start : Settings → World
 start settings = record { settings = settings; clock = 0; used = 0; history = [] }
 
--- the greatest hub time
-abbrev pub last_moment : ℕ
-last_moment = 2 ^ 48 - 1
+-- ---- hub time
 
 -- The hub time of a call: the greatest of the clock, the last hub time used and the history's time.
-abbrev pub hub_time : ℕ → ℕ → List Event → ℕ
-hub_time clock used h = max (min clock last_moment) (max used (time h))
-
 abbrev pub now : World → ℕ
-now w = hub_time w.clock w.used w.history
+now w = max (min w.clock last_moment) (max w.used (time w.history))
 
--- The intent that an ask makes: an unsubscription has neither lease nor secret, and a publication
--- makes none.
-abbrev pub intent_for : Alg → ℕ → Ask → Option Intent
-intent_for alg n (Subscribe topic echo callback secret granted) =
-    Some (record {
-      n = n;
-      mode = On;
-      topic = topic;
-      echo = echo;
-      callback = callback;
-      secret = secret;
-      granted = granted;
-      alg = alg;
-    })
-intent_for alg n (Unsubscribe topic echo callback) =
-    Some (record {
-      n = n;
-      mode = Off;
-      topic = topic;
-      echo = echo;
-      callback = callback;
-      secret = [];
-      granted = 0;
-      alg = alg;
-    })
-intent_for alg n (Publish topics) = None
+abbrev pub at : ℕ → World → World
+at t w = record { settings = w.settings; clock = t; used = w.used; history = w.history }
 
--- the history after an ask that makes this intent at that time
-abbrev pub with_intent : ℕ → List Event → Option Intent → List Event
-with_intent t h None = h
-with_intent t h (Some intent) = record { serial = serial h + 1; t = t; what = Asked intent } ∷ h
+-- the world after a call that commits these events, in their order
+abbrev pub with_events : List What → World → World
+with_events made w = record { settings = w.settings; clock = w.clock; used = now w; history = committed (now w) made w.history }
 
--- The history after an ask. A publication makes no event: no lease is live, since none was confirmed.
-abbrev pub asked : Alg → ℕ → List Event → Ask → List Event
-asked alg t h ask = with_intent t h (intent_for alg (intent_number h + 1) ask)
+-- ---- what the hub is asked, and what it says
 
--- the line of a refusal
-abbrev pub refusal : List ℕ → List ℕ
-refusal told = codes "answer 400 " ++ told ++ 10 ∷ []
+-- It commits the answer's events, and tells their number and the length of the history with them; or it says what is full; or that
+-- there is no memory, and then nothing changes. It keeps no journal, so it says nothing of a disk.
+abbrev pub Tells : World → Answer → Result Told DeskFault → World → Type 0
+Tells w a (Ok told) w' =
+    (made : List What) × (a ≡ Events made) × (told.events ≡ length made) × (told.at ≡ length made + length w.history) × (w' ≡ with_events made w)
+Tells w a (Err (IsFull kind held asked limit)) w' = (a ≡ Full kind held asked limit) × (w' ≡ with_events [] w)
+Tells w a (Err NoMemory) w' = w' ≡ w
+Tells w a (Err Disk) w' = ⊥
 
--- what is answered to a form that asks for this, or has this fault
-abbrev pub answer : Result Ask AskFault → List ℕ
-answer (Ok ask) = codes "answer 202 accepted\n"
-answer (Err fault) = refusal (fault_text fault)
+-- a request that it was asked is all that changes the world
+abbrev pub Hears : World → Heard → World → Type 0
+Hears w nothing w' = w' ≡ w
+Hears w wanting w' = w' ≡ w
+Hears w (request ask said) w' = Tells w (answer w.history (now w) ask w.settings.policy) said w'
 
--- the world after an ask, or a form that asks for nothing
-abbrev pub after_ask : World → Result Ask AskFault → World
-after_ask w (Ok ask) =
-    record {
-      settings = w.settings;
-      clock = w.clock;
-      used = now w;
-      history = asked w.settings.policy.alg (now w) w.history ask;
-    }
-after_ask w (Err fault) = w
+-- ---- what is written
 
--- what a form asks for, with the gateway that the settings have
-abbrev pub ask_at : World → List ℕ → Result Ask AskFault
-ask_at w body = ask_in w.settings.policy.gateway body
+-- the line of an answer
+abbrev pub answer_line : Response → List ℕ
+answer_line r = codes "answer " ++ decimal r.code ++ codes " " ++ r.text ++ codes "\n"
 
--- the world after a form
-abbrev pub after_form : World → Choice → List ℕ → World
-after_form w Choice.Made body = after_ask w (ask_at w body)
-after_form w Choice.Wanting body = w
+-- the line of what the hub said to an operator who revokes
+abbrev pub revoke_line : Result Told DeskFault → List ℕ
+revoke_line (Ok told) = if told.events == 0 then codes "no lease\n" else codes "revoked\n"
+revoke_line (Err fault) = answer_line (desk_response (Err fault))
 
--- what is answered to a form
-abbrev pub form_answer : World → Choice → List ℕ → List ℕ
-form_answer w Choice.Made body = answer (ask_at w body)
-form_answer w Choice.Wanting body = codes "answer 507 no memory\n"
+-- the bytes that were written to a connection, and before them how many
+abbrev pub connection_text : List ℕ → List ℕ
+connection_text out = codes "out " ++ decimal (length out) ++ codes "\n" ++ out ++ codes "\n"
 
--- the world after a happening
-abbrev pub after : World → Choice → Happening → World
-after w choice (happens.At t) =
-    record { settings = w.settings; clock = t; used = w.used; history = w.history }
-after w choice (happens.Form body) = after_form w choice body
-after w choice happens.Sum =
-    record { settings = w.settings; clock = w.clock; used = now w; history = w.history }
-after w choice happens.End = w
+-- ---- happenings
 
--- what a happening writes
-abbrev pub output : World → Choice → Happening → List ℕ
-output w choice (happens.At t) = []
-output w choice (happens.Form body) = form_answer w choice body
-output w choice happens.Sum = account_text (account w.history (now w))
-output w choice happens.End = []
+-- A form: its first fault, or what the hub says of what it asks for. Where memory is wanting before the hub is asked, that is said.
+pub record Forms (w : World) (body written : List ℕ) (w' : World) : Type 0 where
+  pub heard : Heard
+  pub response : Response
+  pub answers : FormAnswers heard (ask_in w.settings.policy.gateway body) response
+  pub line : written ≡ answer_line response
+  pub hears : Hears w heard w'
 
--- what happenings with their choices write
-abbrev pub transcript : World → List (Choice × Happening) → List ℕ
-transcript w [] = []
-transcript w (p ∷ ps) = output w p.0 p.1 ++ transcript (after w p.0 p.1) ps
+-- the line of a fault, or that there was no memory for it
+abbrev pub Refuses : AskFault → List ℕ → Type 0
+Refuses fault written = (written ≡ answer_line no_memory) ⊎ ((fault ≢ Starved) × (written ≡ answer_line (fault_response fault)))
 
--- the world after happenings with their choices
-abbrev pub after_all : World → List (Choice × Happening) → World
-after_all w [] = w
-after_all w (p ∷ ps) = after_all (after w p.0 p.1) ps
+-- it was answered, or ended before
+abbrev pub is_over : Served → Bool
+is_over (how.Answered code) = true
+is_over how.Empty = true
+is_over how.Cut = true
+is_over _ = false
+
+-- A connection with these bytes and then the end: it was served, and some of the bytes were read.
+pub record Connects (w : World) (bytes written : List ℕ) (w' : World) : Type 0 where
+  pub heard : Heard
+  pub served : Served
+  pub taken : List ℕ
+  pub out : List ℕ
+  pub over : is_over served ≡ true
+  pub part : IsPrefix taken bytes
+  pub served_is : IsServed w.settings.policy (Some bytes) taken out heard served
+  pub text : written ≡ connection_text out
+  pub hears : Hears w heard w'
+
+-- An operator's word: the lease of this topic and this callback ends, where there is a live one.
+pub record Revokes (w : World) (topic callback written : List ℕ) (w' : World) : Type 0 where
+  pub said : Result Told DeskFault
+  pub line : written ≡ revoke_line said
+  pub tells : Tells w (revocation_answer w.history (now w) topic callback) said w'
+
+-- a happening writes this, and the world is so afterwards
+abbrev pub Plays : World → Happening → List ℕ → World → Type 0
+Plays w (happens.At t) written w' = (written ≡ []) × (w' ≡ at t w)
+Plays w (happens.Form body) written w' = Forms w body written w'
+Plays w (happens.In bytes) written w' = Connects w bytes written w'
+Plays w (happens.Revoke topic callback) written w' = Revokes w topic.key callback.key written w'
+Plays w happens.Sum written w' = (written ≡ account_text (account w.history (now w))) × (w' ≡ with_events [] w)
+Plays w happens.End written w' = (written ≡ []) × (w' ≡ w)
+
+-- happenings, one after another: what they write together, and the world afterwards
+abbrev pub AllPlay : World → List Happening → List ℕ → World → Type 0
+AllPlay w [] written w' = (written ≡ []) × (w' ≡ w)
+AllPlay w (h ∷ hs) written w' =
+    (first : List ℕ) × (next : World) × Plays w h first next
+    × (others : List ℕ) × AllPlay next hs others w' × (written ≡ first ++ others)

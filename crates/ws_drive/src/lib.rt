@@ -1,14 +1,11 @@
-//! Plays a script of happenings, and writes its transcript.
+//! Plays a script of happenings over a hub, and writes its transcript.
 #![tactic(auto)]
 
 mod account_text;
-mod desk;
-mod give;
-pub mod laws;
+mod connection;
+mod happen;
+mod lines;
+mod output;
 mod play;
-mod script;
-mod session;
-mod take;
 
-pub use play::{Stop, Turn, drive};
-pub use script::{Happening, Line};
+pub use play::{Stop, Turn, drive, drive_over};

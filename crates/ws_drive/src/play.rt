@@ -1,17 +1,19 @@
 // Plays a script to its end.
-ghost use Rattle.std.specs.Prelude.{◌<◌, ◌^◌, length};
-ghost use Rattle.ws_drive.specs.Session.{world_of};
-ghost use Rattle.ws_drive.specs.Steps.{Steps, StopsFor};
+ghost use Rattle.std.specs.Prelude.{◌≡◌, [], false, true};
+ghost use Rattle.ws_model.specs.Key.{is_key};
 ghost use Rattle.ws_drive.specs.Runs.{Runs, StatusFor};
+ghost use Rattle.ws_drive.specs.Standing.{IsWorld};
+ghost use Rattle.ws_drive.specs.Steps.{Steps, StopsFor};
+ghost use Rattle.ws_drive.specs.World.{World, start};
 ghost use Rattle.ws_drive.specs.declared.play.Stop.TheVariants as stop;
 
-use crate::give::give_all;
-use crate::script::Happening;
-use crate::session::Session;
-use crate::take::{ReadFault, take_happening};
+use crate::happen::play;
 use std::alloc::Global;
+use ws_front::give_all;
 use ws_link::{Sink, Source, Status, WriteFailed};
 use ws_model::{NoMemory, Settings};
+use ws_port::Port;
+use ws_script::{Happening, ReadFault, take_happening};
 
 /// How a step went: a happening was played, the script ended, or it leaves its grammar.
 #[derive(Clone, Copy, Debug, PartialEq, Eq)]
@@ -70,43 +72,57 @@ impl From<NoMemory> for Stop {
 const MAX_HAPPENINGS: u64 = 1 << 40;
 
 // Reads one happening, lets it happen, and writes what it writes.
-fn step<S: Source, K: Sink>(
+fn step<P: Port, S: Source, K: Sink>(
     alloc: Global,
     settings: &Settings,
-    session: &mut Session,
+    port: &mut P,
+    clock: &mut u64,
     source: &mut S,
     sink: &mut K,
 ) -> Result<Turn, Stop>
-    requires { length session.old.desk.events < 2 ^ 63 }
-    ensures steps { Steps (S.left source.old) (S.left source.new) (K.written sink.old) (K.written sink.new)
-        (world_of settings.now session.old) (world_of settings.now session.new) result }
+    requires sole { P.sole ≡ true }
+    requires unstored { P.stored ≡ false }
+    requires hub { is_key settings.now.policy.hub ≡ true }
+    requires settings { P.settings port.old ≡ settings.now }
+    ensures steps { (w : World) → IsWorld P.seen P.settings P.moment clock.old port.old w
+        → Steps settings.now.policy.gateway (S.left source.old) (S.left source.new) (K.written sink.old) (K.written sink.new)
+            w (IsWorld P.seen P.settings P.moment clock.new port.new) result }
     ensures causes { StopsFor (S.faults source.old) (S.faults source.new) (K.faults sink.old) (K.faults sink.new) result }
+    ensures settings { P.settings port.new ≡ P.settings port.old }
 {
-    let Some(happening) = take_happening(alloc, source)? else {
+    let Some(happening) = take_happening(alloc, source, settings.policy.gateway)? else {
         return Ok(Turn::Left);
     };
     if let Happening::End = happening {
         return Ok(Turn::Ended);
     }
-    let text = session.play(alloc, settings, &happening)?;
-    give_all(sink, text.as_bytes())?;
+    let output = play(alloc, settings, port, clock, &happening)?;
+    give_all(sink, output.as_bytes())?;
     Ok(Turn::Played)
 }
 
-/// Plays the script of the source with these settings from an empty history, and writes its transcript to the sink. The
-/// output of a happening is written before the next one is read, and nothing is read behind `end`.
-pub fn drive<S: Source, K: Sink>(
+/// Plays the script of the source over a hub to which nothing has happened, and writes its transcript to the sink. The
+/// settings are the hub's. The output of a happening is written before the next one is read, and nothing is read behind
+/// `end`.
+pub fn drive_over<P: Port, S: Source, K: Sink>(
     alloc: Global,
+    settings: &Settings,
+    port: &mut P,
     source: &mut S,
     sink: &mut K,
-    settings: &Settings,
 ) -> Status
+    requires sole { P.sole ≡ true }
+    requires unstored { P.stored ≡ false }
+    requires hub { is_key settings.now.policy.hub ≡ true }
+    requires settings { P.settings port.old ≡ settings.now }
+    requires fresh { P.seen port.old [] }
+    requires unused { P.moment port.old ≡ 0 }
     ensures runs { Runs settings.now (S.left source.old) (S.left source.new) (K.written sink.old) (K.written sink.new) result }
     ensures causes { StatusFor (S.faults source.old) (S.faults source.new) (K.faults sink.old) (K.faults sink.new) result }
 {
-    let mut session = Session::start(alloc);
+    let mut clock = 0;
     'steps: for i in 0..MAX_HAPPENINGS {
-        match step(alloc, settings, &mut session, source, sink) {
+        match step(alloc, settings, port, &mut clock, source, sink) {
             Ok(Turn::Played) => {}
             Ok(Turn::Ended) => return Status::Ok,
             Ok(Turn::Left) => return Status::Script { line: i + 1 },

@@ -6,8 +6,8 @@ use Rattle.std.proofs.lemmas.List.{append-nil}
 use Rattle.ws_model.specs.declared.settings.Settings.{Settings}
 use Rattle.ws_link.specs.declared.status.Status.TheVariants as status
 use Rattle.ws_front.specs.Moves.{AppendsSome}
-use Rattle.ws_script.specs.declared.happening.Happening.{Happening}
-use Rattle.ws_script.specs.declared.happening.Happening.TheVariants as happens
+use Rattle.ws_script.specs.declared.script.Happening.{Happening}
+use Rattle.ws_script.specs.declared.script.Happening.TheVariants as happens
 use Rattle.ws_script.specs.Script.{IsHappening, text, texts, NoneBegins, is_end}
 use Rattle.ws_script.specs.Moves.{ConsumesSome}
 use Rattle.ws_drive.specs.World.{World, start, Plays, AllPlay}

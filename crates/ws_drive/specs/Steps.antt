@@ -3,8 +3,8 @@ use Rattle.std.specs.Prelude.{◌≡◌, ◌≤◌, ℕ, Bool, false, List, [], 
 use Rattle.std.specs.Io.KnownBytes.{Consumes, Appends}
 use Rattle.ws_model.specs.Cause.{Rose}
 use Rattle.ws_front.specs.Moves.{AppendsSome}
-use Rattle.ws_script.specs.declared.happening.Happening.{Happening}
-use Rattle.ws_script.specs.declared.happening.Happening.TheVariants as happens
+use Rattle.ws_script.specs.declared.script.Happening.{Happening}
+use Rattle.ws_script.specs.declared.script.Happening.TheVariants as happens
 use Rattle.ws_script.specs.Script.{IsHappening, text, NoneBegins, is_end}
 use Rattle.ws_script.specs.Moves.{ConsumesSome}
 use Rattle.ws_drive.specs.declared.play.Turn.{Turn}

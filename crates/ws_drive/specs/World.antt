@@ -20,8 +20,8 @@ use Rattle.ws_front.specs.declared.served.Served.TheVariants as how
 use Rattle.ws_front.specs.Answers.{Response, Heard, nothing, wanting, request, FormAnswers, desk_response, fault_response, no_memory}
 use Rattle.ws_front.specs.Connection.{IsServed}
 use Rattle.ws_front.specs.Moves.{IsPrefix}
-use Rattle.ws_script.specs.declared.happening.Happening.{Happening}
-use Rattle.ws_script.specs.declared.happening.Happening.TheVariants as happens
+use Rattle.ws_script.specs.declared.script.Happening.{Happening}
+use Rattle.ws_script.specs.declared.script.Happening.TheVariants as happens
 use Rattle.ws_drive.specs.AccountText.{account_text}
 
 -- the settings, the clock, the last hub time used, and the history, newest first

@@ -14,6 +14,7 @@ use ws_model::{Bytes, NoMemory, Settings};
 use ws_port::Port;
 
 /// What a peer sends: bytes in memory, and then the end.
+#[derive(Drop)]
 pub struct Sent<'a> {
     left: &'a [u8],
 }

@@ -5,7 +5,7 @@ ghost use Rattle.ws_model.specs.Key.{is_key};
 ghost use Rattle.ws_drive.specs.Output.{output_bytes};
 ghost use Rattle.ws_drive.specs.Standing.{IsWorld};
 ghost use Rattle.ws_drive.specs.World.{World, Forms, Plays, Refuses, Revokes};
-ghost use Rattle.ws_script.specs.declared.happening.Happening.TheVariants as happens;
+ghost use Rattle.ws_script.specs.declared.script.Happening.TheVariants as happens;
 
 use crate::account_text::account_text;
 use crate::connection::connect;

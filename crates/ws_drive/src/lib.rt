@@ -8,4 +8,4 @@ mod lines;
 mod output;
 mod play;
 
-pub use play::{Stop, Turn, drive, drive_over};
+pub use play::{Stop, Turn, drive_over};

@@ -1,8 +1,9 @@
 -- Settings that are being read, and what they come to (own).
-use Rattle.std.specs.Prelude.{ℕ, Bool, not, nat_lt, List, [], ◌∷◌, ◌++◌, length, Option, Some, None, is_some, option_map, unwrap_or, if◌then◌else◌, codes, bytes_eq}
+use Rattle.std.specs.Prelude.{◌≡◌, ℕ, Bool, true, not, IfSome, nat_lt, List, [], ◌∷◌, ◌++◌, length, Option, Some, None, is_some, option_map, unwrap_or, if◌then◌else◌, codes, bytes_eq}
 use Rattle.ws_model.specs.declared.event.Alg.{Alg}
 use Rattle.ws_model.specs.declared.event.Alg.TheVariants.{Sha256}
 use Rattle.ws_model.specs.declared.settings.Settings.{Settings}
+use Rattle.ws_model.specs.Key.{is_key}
 use Rattle.ws_program.specs.declared.draft.Draft.{Draft}
 use Rattle.ws_program.specs.declared.draft.Setting.{Setting}
 use Rattle.ws_program.specs.declared.draft.Setting.TheVariants as setting
@@ -19,6 +20,10 @@ setting_of word =
 
 abbrev pub nothing_set : Draft
 nothing_set = record { hub = None; gateway = None; alg = None; allow = [] }
+
+-- the hub's URL is a key, where one is set
+abbrev pub HasKey : Draft → Type 0
+HasKey draft = IfSome draft.hub (λ key. is_key key ≡ true)
 
 -- a setting may stand once, and a prefix 16 times
 abbrev pub may_set : Draft → Setting → Bool

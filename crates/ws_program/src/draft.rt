@@ -1,6 +1,7 @@
 // Settings that are being read.
-ghost use Rattle.std.specs.Prelude.{◌≡◌, IfOk, unwrap_or};
-ghost use Rattle.ws_program.specs.Drafts.{setting_of, nothing_set, may_set, with_value, default_hub, settings_from};
+ghost use Rattle.std.specs.Prelude.{◌≡◌, IfOk, IfSome, true, unwrap_or};
+ghost use Rattle.ws_model.specs.Key.{is_key};
+ghost use Rattle.ws_program.specs.Drafts.{setting_of, nothing_set, may_set, with_value, default_hub, settings_from, HasKey};
 ghost use Rattle.ws_program.specs.declared.draft.Setting.TheVariants as setting;
 
 use crate::values::{address_of, alg_of, hub_key, is_allowed_prefix};
@@ -49,8 +50,10 @@ const MAX_ALLOW: usize = 16;
 
 const DEFAULT_HUB: &str = "http://127.0.0.1:8080/";
 
+#[tactic(auto, using(crate::proofs::DefaultHub::default_is_key))]
 fn hub_or_default(alloc: Global, hub: Option<Key>) -> Result<Key, NoMemory>
-    ensures { IfOk result (λ key. key ≡ unwrap_or hub default_hub) }
+    ensures value { IfOk result (λ key. key ≡ unwrap_or hub default_hub) }
+    ensures key { IfSome hub (λ k. is_key k ≡ true) → IfOk result (λ key. is_key key ≡ true) }
 {
     match hub {
         Some(hub) => Ok(hub),
@@ -84,7 +87,8 @@ impl Draft {
     }
 
     fn with_hub(self, alloc: Global, text: &str) -> Result<Option<Draft>, NoMemory>
-        ensures { IfOk result (λ draft. draft ≡ with_value self setting.Hub text.now) }
+        ensures value { IfOk result (λ draft. draft ≡ with_value self setting.Hub text.now) }
+        ensures key { HasKey self → IfOk result (λ draft. IfSome draft HasKey) }
     {
         match hub_key(alloc, text)? {
             Some(hub) => Ok(Some(Draft {
@@ -96,7 +100,8 @@ impl Draft {
     }
 
     fn with_gateway(self, alloc: Global, text: &str) -> Result<Option<Draft>, NoMemory>
-        ensures { IfOk result (λ draft. draft ≡ with_value self setting.Gateway text.now) }
+        ensures value { IfOk result (λ draft. draft ≡ with_value self setting.Gateway text.now) }
+        ensures key { HasKey self → IfOk result (λ draft. IfSome draft HasKey) }
     {
         match address_of(alloc, text)? {
             Some(at) => Ok(Some(Draft {
@@ -108,7 +113,8 @@ impl Draft {
     }
 
     fn with_alg(self, text: &str) -> Option<Draft>
-        ensures { result ≡ with_value self setting.Alg text.now }
+        ensures value { result ≡ with_value self setting.Alg text.now }
+        ensures key { HasKey self → IfSome result HasKey }
     {
         match alg_of(text) {
             Some(alg) => Some(Draft {
@@ -120,7 +126,8 @@ impl Draft {
     }
 
     fn with_allow(mut self, alloc: Global, text: &str) -> Result<Option<Draft>, NoMemory>
-        ensures { IfOk result (λ draft. draft ≡ with_value self setting.Allow text.now) }
+        ensures value { IfOk result (λ draft. draft ≡ with_value self setting.Allow text.now) }
+        ensures key { HasKey self → IfOk result (λ draft. IfSome draft HasKey) }
     {
         if !is_allowed_prefix(text) {
             return Ok(None);
@@ -136,7 +143,8 @@ impl Draft {
         setting: Setting,
         text: &str,
     ) -> Result<Option<Draft>, NoMemory>
-        ensures { IfOk result (λ draft. draft ≡ with_value self setting text.now) }
+        ensures value { IfOk result (λ draft. draft ≡ with_value self setting text.now) }
+        ensures key { HasKey self → IfOk result (λ draft. IfSome draft HasKey) }
     {
         match setting {
             Setting::Hub => self.with_hub(alloc, text),
@@ -148,7 +156,8 @@ impl Draft {
 
     /// The settings, with the defaults of what isn't set.
     pub fn settings(self, alloc: Global) -> Result<Settings, NoMemory>
-        ensures { IfOk result (λ settings. settings ≡ settings_from self) }
+        ensures value { IfOk result (λ settings. settings ≡ settings_from self) }
+        ensures key { HasKey self → IfOk result (λ settings. is_key settings.policy.hub ≡ true) }
     {
         let Draft {
             hub,

@@ -2,6 +2,8 @@
 #![tactic(auto)]
 
 mod command;
+#[cfg(test)]
+mod connection_tests;
 mod draft;
 #[cfg(test)]
 mod tests;
@@ -19,6 +21,9 @@ const USAGE: &str = "usage: tubhollow drive [SETTING].. < SCRIPT
 drive  plays the script on standard input and writes its transcript:
          at T      sets the clock to T seconds
          form N    takes a form of the N bytes that follow, with a line feed behind them
+         in N      serves one HTTP connection with the N bytes that follow and then the end
+         revoke TOPIC CALLBACK
+                   ends the lease of that topic and callback
          sum       writes the account
          end       ends the script
 

@@ -4,10 +4,10 @@ use std::alloc::Global;
 use std::test::Fail;
 use ws_link::{MemSink, MemSource, Sink, Status, WriteFailed};
 
-const BASE: &str =
+pub(crate) const BASE: &str =
     "hub.mode=subscribe&hub.topic=http%3A%2F%2Fpub.example%2Fx&hub.callback=http%3A%2F%2Fsub.example%2Fcb";
 
-const NO_OTHERS: &str =
+pub(crate) const NO_OTHERS: &str =
     "notices 0\nleases 0\ntopics 0\nfetches 0\nowed 0\nanswered 0\nexpired 0\nunsubscribed 0\nreplaced 0\ngone 0\nspent 0\nrevoked 0\n";
 
 fn words_of(alloc: Global, line: &str) -> Result<Vec<String>, Fail> {
@@ -19,7 +19,7 @@ fn words_of(alloc: Global, line: &str) -> Result<Vec<String>, Fail> {
 }
 
 // The output and the status of a run over this script in these pieces, with these failing calls.
-fn played(
+pub(crate) fn played(
     alloc: Global,
     line: &str,
     script: &str,
@@ -28,7 +28,7 @@ fn played(
 ) -> Result<(Vec<u8>, Status), Fail> {
     let words = words_of(alloc, line)?;
     let mut source = MemSource::made(alloc, script.as_bytes(), pieces, failing.0)?;
-    let mut sink = MemSink::made(alloc, 10_000, failing.1)?;
+    let mut sink = MemSink::made(alloc, 2_000_000, failing.1)?;
     let status = run(alloc, &words, &mut source, &mut sink);
     Ok((sink.written().to_vec(alloc)?, status))
 }

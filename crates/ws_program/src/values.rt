@@ -1,6 +1,7 @@
 // The values of settings.
-ghost use Rattle.std.specs.Prelude.{◌≡◌, IfOk};
+ghost use Rattle.std.specs.Prelude.{◌≡◌, IfOk, IfSome, true};
 ghost use Rattle.std.specs.List.{list_all};
+ghost use Rattle.ws_model.specs.Key.{is_key};
 ghost use Rattle.ws_program.specs.Values.{hub_key, alg_of, is_host_byte, is_host, is_number, port_of, host_part, port_part, address_of, is_allowed_prefix};
 
 use std::alloc::Global;
@@ -17,7 +18,8 @@ const MAX_PORT: u64 = 65_535;
 /// The key of a hub's URL, which may have the scheme https.
 #[tactic(auto, unfolding(crate::specs::Values::hub_key))]
 pub fn hub_key(alloc: Global, text: &str) -> Result<Option<Key>, NoMemory>
-    ensures { IfOk result (λ key. key ≡ hub_key text.now) }
+    ensures value { IfOk result (λ key. key ≡ hub_key text.now) }
+    ensures key { IfOk result (λ key. IfSome key (λ k. is_key k ≡ true)) }
 {
     match topic(alloc, text.as_bytes(), true) {
         Ok(key) => Ok(Some(key)),

@@ -1,6 +1,7 @@
 // The words of a command line.
-ghost use Rattle.std.specs.Prelude.{◌≡◌, ◌+◌, ◌<◌, ◌^◌, length, map, string_bytes};
-ghost use Rattle.ws_program.specs.Drafts.{nothing_set, setting_of};
+ghost use Rattle.std.specs.Prelude.{◌≡◌, ◌+◌, ◌<◌, ◌^◌, IfOk, length, map, string_bytes, true};
+ghost use Rattle.ws_model.specs.Key.{is_key};
+ghost use Rattle.ws_program.specs.Drafts.{HasKey, nothing_set, setting_of};
 ghost use Rattle.ws_program.specs.Words.{Tells, next_setting, with_setting, place_without_value, draft_words, settings_words, command_words};
 ghost use Rattle.ws_program.specs.declared.words.WordFault.TheVariants as fault;
 
@@ -46,7 +47,8 @@ fn with_setting(
     value: &str,
 ) -> Result<Draft, WordFault>
     requires { place < 2 ^ 63 }
-    ensures { Tells (with_setting place draft (next_setting draft (setting_of word.now)) value.now) result }
+    ensures value { Tells (with_setting place draft (next_setting draft (setting_of word.now)) value.now) result }
+    ensures key { HasKey draft → IfOk result HasKey }
 {
     let Some(setting) = next_setting(&draft, word) else {
         return Err(WordFault::At(place));
@@ -77,7 +79,8 @@ fn draft_words(
     words: &[String],
 ) -> Result<Draft, WordFault>
     requires { place + length words.now < 2 ^ 63 }
-    ensures { Tells (draft_words place draft (map string_bytes words.now)) result }
+    ensures value { Tells (draft_words place draft (map string_bytes words.now)) result }
+    ensures key { HasKey draft → IfOk result HasKey }
 {
     match words {
         [] => Ok(draft),
@@ -93,7 +96,8 @@ fn draft_words(
 #[tactic(auto, unfolding(crate::specs::Words::settings_words))]
 pub fn settings_words(alloc: Global, words: &[String], first: u64) -> Result<Settings, WordFault>
     requires { first + length words.now < 2 ^ 63 }
-    ensures { Tells (settings_words first (map string_bytes words.now)) result }
+    ensures value { Tells (settings_words first (map string_bytes words.now)) result }
+    ensures key { IfOk result (λ settings. is_key settings.policy.hub ≡ true) }
 {
     let draft = draft_words(alloc, Draft::empty(alloc), first, words)?;
     Ok(draft.settings(alloc)?)
@@ -101,7 +105,8 @@ pub fn settings_words(alloc: Global, words: &[String], first: u64) -> Result<Set
 
 /// The settings of the command line.
 pub fn command_words(alloc: Global, words: &[String]) -> Result<Settings, WordFault>
-    ensures { Tells (command_words (map string_bytes words.now)) result }
+    ensures value { Tells (command_words (map string_bytes words.now)) result }
+    ensures key { IfOk result (λ settings. is_key settings.policy.hub ≡ true) }
 {
     match words {
         [word, others @ ..] if word.as_str() == "drive" => settings_words(alloc, others, 2),

@@ -1,5 +1,0 @@
-pub mod Known
-pub mod Words
-pub mod Lines
-pub mod Reading
-pub mod Happenings

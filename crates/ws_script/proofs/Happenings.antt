@@ -13,7 +13,7 @@ use Rattle.ws_script.specs.Moves.{NoneOf, NoneBehind, Reads, ConsumesSome}
 use Rattle.ws_script.specs.Reading.{IsShortLine, HasSize, with_line_feed}
 use Rattle.ws_script.specs.Script.{OneReading, IsLine, IsHappening, HasLine, line_text, line_of, bytes_behind, text, NoneBegins}
 use Rattle.ws_script.proofs.Known.{Consumes-then}
-use Rattle.ws_script.proofs.Words.{same_before, tail_is}
+use Rattle.ws_script.proofs.Parting.{same_before, tail_is}
 use Rattle.ws_script.proofs.Lines.{same_front, line_text_one, line_text_injective}
 
 -- what stands behind a happening's line is a body of that size
@@ -40,12 +40,12 @@ in_body size happens.End has = absurd (cc)
 pub body_none : (l : Line) (size : ℕ) → ((h : Happening) → HasLine l h → HasBody size h) → (bytes : List ℕ) → NoneOf with_line_feed (HasSize size) bytes → NoneOf bytes_behind (HasLine l) bytes
 body_none l size body_of bytes none h rest has e =
     let body = body_of h has in
-    none body.0 rest body.1.0 (e ∙ ap (λ t. t ++ rest) body.1.1)
+    none body.0 rest body.1 (e ∙ ap (λ t. t ++ rest) body.2)
 
 pub body_last : (l : Line) (size : ℕ) → ((h : Happening) → HasLine l h → HasBody size h) → (bytes : List ℕ) → NoneBehind with_line_feed (HasSize size) bytes → NoneBehind bytes_behind (HasLine l) bytes
 body_last l size body_of bytes none h rest has e =
     let body = body_of h has in
-    none body.0 rest body.1.0 (e ∙ ap (λ t. t ++ rest) body.1.1)
+    none body.0 rest body.1 (e ∙ ap (λ t. t ++ rest) body.2)
 
 parts : (h : Happening) (rest : List ℕ) → text h ++ rest ≡ line_text (line_of h) ++ 10 ∷ (bytes_behind h ++ rest)
 parts h rest = append_assoc (line_text (line_of h)) (10 ∷ bytes_behind h) rest
@@ -92,7 +92,7 @@ pub with_line : (gateway : Bool) (found : List ℕ) (l : Line) (a m b : Option (
 with_line gateway found l a m b (Ok (Some h)) within short is p q =
     let line : found ≡ line_text (line_of h) = is ∙ ap line_text (sym q.1) in
     let whole : with_line_feed found ++ bytes_behind h ≡ text h = append_assoc found (10 ∷ []) (bytes_behind h) ∙ ap (λ t. t ++ 10 ∷ bytes_behind h) line in
-    (subst (Consumes a b) whole (Consumes-then a m b (with_line_feed found) (bytes_behind h) p q.0), subst (IsLine gateway) (sym q.1) within, subst (λ t. length t ≤ 4096) line short)
+    (subst (Consumes a b) whole (Consumes-then a m b (with_line_feed found) (bytes_behind h) p q.0), (subst (IsLine gateway) (sym q.1) within, subst (λ t. length t ≤ 4096) line short))
 with_line gateway found l a m b (Ok None) within short is p q =
     ((with_line_feed found ++ q.0.0, Consumes-then a m b (with_line_feed found) q.0.0 p q.0.1, tt), missed gateway found l a m within is p q.1)
 with_line gateway found l a m b (Err Failed) within short is p q =

@@ -10,7 +10,7 @@ use Rattle.ws_script.specs.Script.{IsLine, IsWord, line_text}
 use Rattle.ws_script.specs.declared.words.Word.{Word}
 use Rattle.ws_target.specs.Keys.{key_or_fault}
 use Rattle.ws_script.specs.Bytes.{IsOneLine}
-use Rattle.ws_script.proofs.Words.{Lacks-append, no_head, same_before, tail_is, word_lacks_space, word_one_line}
+use Rattle.ws_script.proofs.Parting.{Lacks-append, no_head, same_before, tail_is, word_lacks_space, word_one_line}
 
 pub IsOneLine-push : (bytes : List ℕ) (b : ℕ) → IsOneLine bytes → (b == 10) ≡ false → IsOneLine (bytes ++ b ∷ [])
 IsOneLine-push [] b one p = (p, tt)

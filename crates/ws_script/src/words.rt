@@ -38,7 +38,9 @@ fn two_words(text: &[u8]) -> Option<(&[u8], &[u8])>
         ((first second : List ℕ) → is_word first ≡ true → is_word second ≡ true → text.now ≢ first ++ 32 ∷ second)
         (λ words. (is_word words.0.now ≡ true) × (is_word words.1.now ≡ true) × (text.now ≡ words.0.now ++ 32 ∷ words.1.now)) }
 {
-    let space = first_space(text)?;
+    let Some(space) = first_space(text) else {
+        return None;
+    };
     let first = &text[..space];
     let second = &text[space + 1..];
     if is_word(first) && is_word(second) {

@@ -1,10 +1,14 @@
 -- Bytes that a text lacks, and where its words part.
-use Rattle.std.proofs.Common.{◌≡◌, ◌≢◌, ℕ, zero, suc, ◌+◌, ◌<◌, ◌≤◌, Bool, true, false, not, ◌&&◌, ◌||◌, ◌==◌, nat_lt, cond, List, [], ◌∷◌, ◌++◌, length, take, drop, get_or, refl, sym, ap, ◌∙◌, subst, Option, Some, None, position, arith}
+use Rattle.std.proofs.Common.{◌≡◌, ◌≢◌, ℕ, zero, suc, ◌+◌, ◌<◌, ◌≤◌, Bool, true, false, not, ◌&&◌, ◌||◌, ◌==◌, nat_lt, cond, List, [], ◌∷◌, ◌++◌, length, take, drop, get_or, refl, sym, ap, ◌∙◌, subst, Option, Some, None, Result, IsErr, position, take_all, ◌-◌, arith}
 use Rattle.std.specs.List.{position_or_len}
 use Rattle.std.proofs.lemmas.Bool.Decides.{nat_tests}
-use Rattle.std.proofs.lemmas.List.{take-append-drop, drop_more}
+use Rattle.std.proofs.lemmas.List.{take-append-drop, drop_more, length-drop}
 use Rattle.std.proofs.lemmas.List.Quantifiers.{position-Some}
+use Rattle.ws_target.specs.declared.fault.TargetFault.{TargetFault}
+use Rattle.ws_target.specs.Keys.{key_or_fault}
+use Rattle.ws_script.specs.declared.words.Word.{Word}
 use Rattle.ws_script.specs.Bytes.{Lacks, has_byte, is_word}
+use Rattle.ws_script.specs.Script.{IsWord}
 
 neither : (a b : Bool) → (a || b) ≡ false → (a ≡ false) × (b ≡ false)
 neither false b e = (refl, e)
@@ -23,10 +27,10 @@ lacks_by_test byte (b ∷ text) e =
     (both.0, lacks_by_test byte text both.1)
 
 pub word_lacks_space : (text : List ℕ) → is_word text ≡ true → Lacks 32 text
-word_lacks_space text e = lacks_by_test 32 text (none_of (length text == 0) (has_byte 32 text) (has_byte 10 text) e).1.0
+word_lacks_space text e = lacks_by_test 32 text (none_of (length text == 0) (has_byte 32 text) (has_byte 10 text) e).1
 
 pub word_one_line : (text : List ℕ) → is_word text ≡ true → Lacks 10 text
-word_one_line text e = lacks_by_test 10 text (none_of (length text == 0) (has_byte 32 text) (has_byte 10 text) e).1.1
+word_one_line text e = lacks_by_test 10 text (none_of (length text == 0) (has_byte 32 text) (has_byte 10 text) e).2
 
 pub Lacks-append : (byte : ℕ) (xs ys : List ℕ) → Lacks byte xs → Lacks byte ys → Lacks byte (xs ++ ys)
 Lacks-append byte [] ys p q = q
@@ -60,9 +64,9 @@ lacks_front (b ∷ text) (suc i) before short =
 pub space_parts : (text : List ℕ) (i : ℕ) → position (λ b. b == 32) text ≡ Some i → (i < length text) × (text ≡ take i text ++ 32 ∷ drop (i + 1) text) × Lacks 32 (take i text)
 space_parts text i found =
     let at = position-Some (λ b. b == 32) text i 0 found in
-    let is : get_or text i 0 ≡ 32 = grind (arith, nat_tests, at.1.0) in
+    let is : get_or text i 0 ≡ 32 = grind (arith, nat_tests, at.1) in
     let behind : drop i text ≡ 32 ∷ drop (i + 1) text = drop_more text i 0 at.0 ∙ ap (λ b. b ∷ drop (i + 1) text) is in
-    (at.0, sym (take-append-drop i text) ∙ ap (λ rest. take i text ++ rest) behind, lacks_front text i at.1.1 (omega (arith, at.0)))
+    (at.0, sym (take-append-drop i text) ∙ ap (λ rest. take i text ++ rest) behind, lacks_front text i at.2 (omega (arith, at.0)))
 
 space_within : (first second : List ℕ) → position_or_len (λ b. b == 32) (first ++ 32 ∷ second) < length (first ++ 32 ∷ second)
 space_within [] second = omega arith
@@ -82,4 +86,21 @@ no_space text first second none e =
 pub same_words : (text : List ℕ) (i : ℕ) (first second : List ℕ) → position (λ b. b == 32) text ≡ Some i → is_word first ≡ true → text ≡ first ++ 32 ∷ second → (take i text ≡ first) × (drop (i + 1) text ≡ second)
 same_words text i first second found word e =
     let parts = space_parts text i found in
-    same_before 32 (take i text) first (drop (i + 1) text) second parts.1.1 (word_lacks_space first word) (sym parts.1.0 ∙ e)
+    same_before 32 (take i text) first (drop (i + 1) text) second parts.2 (word_lacks_space first word) (sym parts.1 ∙ e)
+
+-- what stands behind a place, as a slice
+pub slice_behind : (text : List ℕ) (i : ℕ) → i < length text → take (length text - (i + 1)) (drop (i + 1) text) ≡ drop (i + 1) text
+slice_behind text i within = take_all (length text - (i + 1)) (drop (i + 1) text) (omega (arith, length-drop (i + 1) text))
+
+-- two words of which one has no key
+pub topic_refused : (gateway : Bool) (text first second : List ℕ) → is_word first ≡ true → text ≡ first ++ 32 ∷ second → IsErr (key_or_fault gateway first) → (topic callback : Word) → IsWord gateway topic → IsWord gateway callback → text ≢ topic.text ++ 32 ∷ callback.text
+topic_refused gateway text first second word is refused topic callback p q e =
+    let same = same_before 32 first topic.text second callback.text (word_lacks_space first word) (word_lacks_space topic.text p.0) (sym is ∙ e) in
+    let told : false ≡ true = subst (λ (answer : Result (List ℕ) TargetFault). IsErr answer) (ap (key_or_fault gateway) same.0 ∙ p.1) refused in
+    absurd (cc)
+
+pub callback_refused : (gateway : Bool) (text first second : List ℕ) → is_word first ≡ true → text ≡ first ++ 32 ∷ second → IsErr (key_or_fault gateway second) → (topic callback : Word) → IsWord gateway topic → IsWord gateway callback → text ≢ topic.text ++ 32 ∷ callback.text
+callback_refused gateway text first second word is refused topic callback p q e =
+    let same = same_before 32 first topic.text second callback.text (word_lacks_space first word) (word_lacks_space topic.text p.0) (sym is ∙ e) in
+    let told : false ≡ true = subst (λ (answer : Result (List ℕ) TargetFault). IsErr answer) (ap (key_or_fault gateway) same.1 ∙ q.1) refused in
+    absurd (cc)

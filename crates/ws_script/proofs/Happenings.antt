@@ -9,7 +9,7 @@ use Rattle.ws_script.specs.declared.script.Happening.TheVariants as happens
 use Rattle.ws_script.specs.declared.take.ReadFault.{ReadFault}
 use Rattle.ws_script.specs.declared.take.ReadFault.TheVariants.{Failed, NoMemory as Wanting}
 use Rattle.ws_script.specs.Bytes.{IsOneLine}
-use Rattle.ws_script.specs.Moves.{NoneOf, NoneBehind, Reads, ConsumesSome}
+use Rattle.ws_script.specs.Moves.{NoneOf, NoneBehind, Reads}
 use Rattle.ws_script.specs.Reading.{IsShortLine, HasSize, with_line_feed}
 use Rattle.ws_script.specs.Script.{OneReading, IsLine, IsHappening, HasLine, line_text, line_of, bytes_behind, text, NoneBegins}
 use Rattle.ws_script.proofs.Known.{Consumes-then}

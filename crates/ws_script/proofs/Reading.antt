@@ -1,5 +1,5 @@
 -- The exits of a reading.
-use Rattle.std.proofs.Common.{◌≡◌, ℕ, ◌≤◌, length, Vec, Global, List, [], ◌∷◌, ◌++◌, refl, ap, ◌∙◌, subst, Option, Some, None, Result, Ok, Err, IfSome, IsErrAnd}
+use Rattle.std.proofs.Common.{◌≡◌, ℕ, ◌≤◌, length, Vec, Global, List, [], ◌++◌, ap, ◌∙◌, subst, Option, Some, None, Result, Ok, Err, IfSome, IsErrAnd}
 use Rattle.std.specs.Io.KnownBytes.{Consumes, IsAtEnd}
 use Rattle.std.proofs.lemmas.List.{append-nil}
 use Rattle.ws_script.specs.declared.take.ReadFault.{ReadFault}

@@ -1,4 +1,4 @@
-use Rattle.std.proofs.Common.{◌≡◌, ◌==◌, ◌+◌, true, false, None, Some, ◌∷◌, ◌++◌, take, position, sym, ap, ◌∙◌}
+use Rattle.std.proofs.Common.{◌≡◌, ◌==◌, true, false, Some, ◌∷◌, ◌++◌, take, position, sym, ap, ◌∙◌}
 use Rattle.ws_script.specs.Bytes.{is_word}
 use Rattle.ws_script.proofs.Parting.{no_space, same_words, slice_behind, space_parts}
 use Rattle.ws_script.proofs.words.two_words.Goals as goal

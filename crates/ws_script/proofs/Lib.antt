@@ -1,0 +1,5 @@
+pub mod Known
+pub mod Parting
+pub mod Lines
+pub mod Reading
+pub mod Happenings

@@ -7,6 +7,7 @@ use std::slice;
 use std::test::Fail;
 use ws_model::{How, What};
 
+#[derive(Drop)]
 struct Counted {
     count: u64,
     past: Past,

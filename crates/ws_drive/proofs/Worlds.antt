@@ -1,5 +1,5 @@
 -- What a call of a port makes of the world that it stands for.
-use Rattle.std.proofs.Common.{◌≡◌, ◌≢◌, ◌⊎◌, ℕ, ◌≤◌, ◌+◌, ◌-◌, ◌^◌, min, max, Bool, true, false, List, [], ◌∷◌, ◌++◌, length, refl, sym, ap, ◌∙◌, subst, arith, Option, Some, Result, Ok, Err, IfOk, inl, inr, IfSome}
+use Rattle.std.proofs.Common.{◌≡◌, ◌≢◌, ◌⊎◌, ℕ, ◌≤◌, ◌+◌, ◌-◌, ◌^◌, min, max, Bool, true, false, List, [], ◌∷◌, ◌++◌, length, refl, sym, ap, ◌∙◌, subst, arith, Option, Some, None, Result, Ok, Err, IfOk, inl, inr}
 use Rattle.std.specs.Io.KnownBytes.{Consumes, Appends}
 use Rattle.ws_model.specs.declared.account.Account.{Account}
 use Rattle.ws_model.specs.declared.answers.Kind.{Kind}
@@ -23,8 +23,15 @@ use Rattle.ws_port.specs.Requests.{answer}
 use Rattle.ws_front.specs.declared.served.Served.{Served}
 use Rattle.ws_front.specs.Answers.{Response, Heard, nothing, wanting, request, FormAnswers, desk_response, fault_response, no_memory}
 use Rattle.ws_front.specs.Connection.{Hears as PortHears, IsServed, Serves, WasAsked}
+use Rattle.ws_script.specs.declared.script.Happening.{Happening}
+use Rattle.ws_script.specs.declared.script.Happening.TheVariants as happens
+use Rattle.ws_script.specs.Script.{is_end}
 use Rattle.ws_drive.specs.Standing.{IsWorld}
 use Rattle.ws_drive.specs.World.{World, now, with_events, Tells, Hears, Forms, Connects, Refuses, answer_line, connection_text, is_over}
+
+-- a hub without a journal
+abbrev Unstored : Result Told DeskFault → Type 0
+Unstored said = IsUnstored said
 
 module _ {P : Type 0} (seen : P → List Event → Type 0) (settings : P → Settings) (moment : P → ℕ) where
   -- the port stands for a world with the clock
@@ -62,7 +69,7 @@ module _ {P : Type 0} (seen : P → List Event → Type 0) (settings : P → Set
       stayed : moment new ≡ moment old → seen new w.history → IsWorld seen settings moment clock new w
       stayed e s = record { set = same ∙ stands.set; clock_is = stands.clock_is; used_is = e ∙ stands.used_is; has_seen = s }
 
-      full_of : (a : Answer) (kind : Kind) (held asked limit : ℕ) → IsUnstored {T = Told} (Err (IsFull kind held asked limit)) → FullBy a kind held asked limit → a ≡ Full kind held asked limit
+      full_of : (a : Answer) (kind : Kind) (held asked limit : ℕ) → Unstored (Err (IsFull kind held asked limit)) → FullBy a kind held asked limit → a ≡ Full kind held asked limit
       full_of a Pending held asked limit u f = f
       full_of a Leases held asked limit u f = f
       full_of a Numbers held asked limit u f = f
@@ -102,6 +109,18 @@ module _ {P : Type 0} (seen : P → List Event → Type 0) (settings : P → Set
           let none : seen new w.history = subst (λ made. seen new (committed (moment new) made w.history)) p.1.0 p.2 in
           (p.1.1 ∙ ap (account w.history) e, reached [] e none)
 
+    -- a request that a port was asked
+    pub requested : (clock : ℕ) (old new : P) (w : World) (stands : IsWorld seen settings moment clock old w) (late : time w.history ≤ moment old) (same : settings new ≡ settings old)
+        (ask : Ask) (said : Result Told DeskFault)
+        → Answered sole (seen new) (uses_time said) (moment new) (Said (λ g. answer g (moment new) ask (settings old).policy) said) w.history
+        → HubTime sole (uses_time said) clock (moment old) (moment new) → IsUnstored said
+        → (w' : World) × Tells w (answer w.history (now w) ask w.settings.policy) said w' × IsWorld seen settings moment clock new w'
+    requested clock old new w stands late same ask said answered hub_time unstored =
+        let policy = ap (λ (s : Settings). s.policy) stands.set in
+        tells clock old new w stands late same (λ g t. answer g t ask w.settings.policy) said
+            (subst (λ p. Answered sole (seen new) (uses_time said) (moment new) (Said (λ g. answer g (moment new) ask p) said) w.history) policy answered)
+            hub_time unstored
+
     -- what a port heard
     module _ (stored : Bool) (apart : stored ≡ false) (faults : P → ℕ) (clock : ℕ) (old new : P) (w : World) (stands : IsWorld seen settings moment clock old w) (late : time w.history ≤ moment old)
         (same : settings new ≡ settings old) where
@@ -110,10 +129,7 @@ module _ {P : Type 0} (seen : P → List Event → Type 0) (settings : P → Set
       hears nothing e = (w, refl, subst (λ p. IsWorld seen settings moment clock p w) (sym e) stands)
       hears wanting e = (w, refl, subst (λ p. IsWorld seen settings moment clock p w) (sym e) stands)
       hears (request ask said) asked =
-          let policy = ap (λ (s : Settings). s.policy) stands.set in
-          tells clock old new w stands late same (λ g t. answer g t ask w.settings.policy) said
-              (subst (λ p. Answered sole (seen new) (uses_time said) (moment new) (Said (λ g. answer g (moment new) ask p) said) w.history) policy (asked.answered w.history stands.has_seen))
-              asked.time (asked.unstored apart)
+          requested clock old new w stands late same ask said (asked.answered w.history stands.has_seen) asked.time (asked.unstored apart)
 
       -- a connection that is over
       pub connected : (hub_policy : Settings) (bytes : List ℕ) (left' : Option (List ℕ)) (out : List ℕ) (written : List ℕ) (served : Served)
@@ -143,7 +159,7 @@ module _ {P : Type 0} (seen : P → List Event → Type 0) (settings : P → Set
 
 -- a form with a fault
 pub refused : (w : World) (gateway : Bool) (body written : List ℕ) (fault : AskFault) → gateway ≡ w.settings.policy.gateway
-    → Gives (ask_in gateway body) (Err {T = Ask} fault) → Refuses fault written → Forms w body written w
+    → Gives (ask_in gateway body) (Err fault) → Refuses fault written → Forms w body written w
 refused w gateway body written fault e gives (inl line) =
     record { heard = wanting; response = no_memory; answers = refl; line = line; hears = refl }
 refused w gateway body written fault e gives (inr r) =
@@ -157,7 +173,7 @@ refused w gateway body written fault e gives (inr r) =
 
 -- a form that asks for something
 pub asked : (w w' : World) (gateway : Bool) (body written : List ℕ) (ask : Ask) (said : Result Told DeskFault) → gateway ≡ w.settings.policy.gateway
-    → Gives (ask_in gateway body) (Ok {E = AskFault} ask) → written ≡ answer_line (desk_response said)
+    → Gives (ask_in gateway body) (Ok ask) → written ≡ answer_line (desk_response said)
     → Tells w (answer w.history (now w) ask w.settings.policy) said w' → Forms w body written w'
 asked w w' gateway body written ask said e gives line tells = record {
   heard = request ask said;
@@ -168,6 +184,15 @@ asked w w' gateway body written ask said e gives line tells = record {
 }
 
 -- what stands where the call went well
-pub if_ok : {T E : Type 0} {Q : T → Type 0} (r : Result T E) → ((x : T) → r ≡ Ok x → Q x) → IfOk r Q
-if_ok (Ok x) f = f x refl
-if_ok (Err e) f = tt
+pub if_ok : {T E : Type 0} {Q R : T → Type 0} (r : Result T E) → IfOk r Q → ((x : T) → Q x → R x) → IfOk r R
+if_ok (Ok x) is f = f x is
+if_ok (Err e) is f = tt
+
+-- a happening that isn't `end`
+pub not_end : (h : Happening) → h ≢ happens.End → is_end h ≡ false
+not_end (happens.At t) other = refl
+not_end (happens.Form body) other = refl
+not_end (happens.In bytes) other = refl
+not_end (happens.Revoke topic callback) other = refl
+not_end happens.Sum other = refl
+not_end happens.End other = absurd (other refl)

@@ -97,24 +97,28 @@ pub fn play<P: Port>(
         → IfOk result (λ output. (w' : World) × Plays w happening.now (output_bytes output) w' × IsWorld P.seen P.settings P.moment clock.new port.new w') }
     ensures settings { P.settings port.new ≡ P.settings port.old }
 {
-    let text = match happening {
+    match happening {
         Happening::At(t) => {
             *clock = *t;
-            CowStr::Borrowed("")
+            Ok(Output::Text(CowStr::Borrowed("")))
         }
         Happening::Form(body) => {
             let gateway = settings.policy.gateway;
-            form(alloc, gateway, port, *clock, body.as_slice())?
+            let line = form(alloc, gateway, port, *clock, body.as_slice())?;
+            Ok(Output::Text(line))
         }
         Happening::In(bytes) => {
             let written = connect(alloc, settings, port, *clock, bytes.as_slice())?;
-            return Ok(Output::Connection(written));
+            Ok(Output::Connection(written))
         }
         Happening::Revoke { topic, callback } => {
-            revoke(alloc, port, *clock, &topic.key, &callback.key)?
+            let line = revoke(alloc, port, *clock, &topic.key, &callback.key)?;
+            Ok(Output::Text(line))
         }
-        Happening::Sum => CowStr::Owned(sum(alloc, port, *clock)?),
-        Happening::End => CowStr::Borrowed(""),
-    };
-    Ok(Output::Text(text))
+        Happening::Sum => {
+            let text = sum(alloc, port, *clock)?;
+            Ok(Output::Text(CowStr::Owned(text)))
+        }
+        Happening::End => Ok(Output::Text(CowStr::Borrowed(""))),
+    }
 }

@@ -3,9 +3,11 @@
 
 mod account_text;
 mod connection;
+mod drive;
 mod happen;
 mod lines;
 mod output;
 mod play;
 
+pub use drive::drive;
 pub use play::{Stop, Turn, drive_over};

@@ -1,9 +1,8 @@
 // The lines of answers.
-ghost use Rattle.std.specs.Prelude.{◌≡◌, IfOk, Err};
-ghost use Rattle.ws_port.specs.declared.fault.DeskFault.TheVariants.{Full as IsFull};
+ghost use Rattle.std.specs.Prelude.{◌≡◌, IfOk, Err, string_bytes};
 ghost use Rattle.std.specs.Cow.{cow_str_bytes};
 ghost use Rattle.ws_form.specs.FaultText.{fault_text};
-ghost use Rattle.ws_front.specs.Answers.{desk_response, fault_response, kind_text};
+ghost use Rattle.ws_front.specs.Answers.{desk_response, fault_response, full_text, kind_text};
 ghost use Rattle.ws_drive.specs.World.{answer_line, revoke_line};
 
 use std::alloc::Global;
@@ -26,28 +25,26 @@ fn kind_word(kind: Kind) -> &'static str
     }
 }
 
+// The line of an answer.
+fn line(alloc: Global, code: u16, text: &str) -> Result<CowStr<'static>, NoMemory>
+    ensures { IfOk result (λ line. cow_str_bytes line ≡ answer_line (record { code = code; text = text.now })) }
+{
+    Ok(CowStr::Owned(format!(in alloc; "answer {code} {text}\n")?))
+}
+
 /// The line of a form's first fault.
 pub fn fault_line(alloc: Global, fault: AskFault) -> Result<CowStr<'static>, NoMemory>
     ensures { IfOk result (λ line. cow_str_bytes line ≡ answer_line (fault_response fault)) }
 {
-    let text = fault.text();
-    Ok(CowStr::Owned(format!(in alloc; "answer 400 {text}\n")?))
+    line(alloc, 400, fault.text())
 }
 
-// The line of what is full.
-fn full_line(
-    alloc: Global,
-    kind: Kind,
-    held: u64,
-    asked: u64,
-    limit: u64,
-) -> Result<CowStr<'static>, NoMemory>
-    ensures { IfOk result (λ line. cow_str_bytes line ≡ answer_line (desk_response (Err (IsFull kind held asked limit)))) }
+// What is full: how many are held, and the limit.
+fn full_text(alloc: Global, kind: Kind, held: u64, limit: u64) -> Result<String, NoMemory>
+    ensures { IfOk result (λ text. string_bytes text ≡ full_text kind held limit) }
 {
     let word = kind_word(kind);
-    Ok(CowStr::Owned(
-        format!(in alloc; "answer 503 full: {word} {held} of {limit}\n")?,
-    ))
+    Ok(format!(in alloc; "full: {word} {held} of {limit}")?)
 }
 
 // The line of a fault.
@@ -59,9 +56,12 @@ fn desk_fault_line(alloc: Global, fault: DeskFault) -> Result<CowStr<'static>, N
         DeskFault::Full {
             kind,
             held,
-            asked,
             limit,
-        } => full_line(alloc, kind, held, asked, limit),
+            ..
+        } => {
+            let text = full_text(alloc, kind, held, limit)?;
+            line(alloc, 503, text.as_str())
+        }
         DeskFault::NoMemory => Ok(CowStr::Borrowed(NO_MEMORY)),
     }
 }

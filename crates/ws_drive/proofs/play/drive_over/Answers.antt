@@ -57,4 +57,4 @@ steps-preserved g c =
     }
 
 pub returns-clause-runs : goal.returns-clause-runs
-returns-clause-runs g c = leaves_long _ _ _ _ _ _ _ c.steps.i c.steps.invariant.reached c.steps.invariant.so_far 1099511627777 (omega arith) (omega arith)
+returns-clause-runs g c = leaves_long _ _ _ (g.S.Source.left c.args.source.now) _ _ (g.K.Sink.written c.args.sink.now) c.steps.i c.steps.invariant.reached c.steps.invariant.so_far 1099511627777 (omega arith) (omega arith)

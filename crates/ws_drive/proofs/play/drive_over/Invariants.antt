@@ -1,4 +1,4 @@
-use Rattle.std.proofs.Common.{◌≡◌, ◌≤◌, ◌×◌}
+use Rattle.std.proofs.Common.{◌≡◌, ◌≤◌}
 use Rattle.ws_drive.specs.Standing.{IsWorld}
 use Rattle.ws_drive.specs.World.{World}
 use Rattle.ws_drive.proofs.Runs.{SoFar}

@@ -1,5 +1,5 @@
 -- What a call that does what its answer says leaves.
-use Rattle.std.proofs.Common.{◌≡◌, ℕ, suc, ◌≤◌, ◌<◌, ◌+◌, ◌-◌, ◌^◌, Bool, true, false, cond, List, [], ◌∷◌, ◌++◌, length, min, max, refl, ap, sym, ◌∙◌, subst, arith, Option, Some, None, Result, Ok, Err, ⊤}
+use Rattle.std.proofs.Common.{◌≡◌, ℕ, suc, ◌≤◌, ◌<◌, ◌+◌, ◌-◌, ◌^◌, Bool, true, false, cond, List, [], ◌∷◌, ◌++◌, length, min, max, refl, ap, sym, ◌∙◌, subst, arith, Option, Some, None, Result, Ok, Err}
 use Rattle.std.specs.Prelude.{nat_lt}
 use Rattle.std.proofs.lemmas.Bool.Decides.{nat_tests}
 use Rattle.ws_model.specs.declared.answers.Kind.{Kind}
@@ -98,3 +98,6 @@ does_so a b t old new (Ok told) d k = record { whats = d.whats; answers = λ h s
 does_so a b t old new (Err (IsFull kind held asked limit)) d k = record { answers = λ h seen. sym (k h seen) ∙ d.answers h seen; keeps = d.keeps; time = d.time }
 does_so a b t old new (Err Disk) d k = d
 does_so a b t old new (Err NoMemory) d k = d
+
+pub told_none : (a n : ℕ) → a ≡ n → n ≡ 0 + a
+told_none a n e = omega arith

@@ -5,9 +5,10 @@ use Rattle.std.specs.List.{list_all}
 use Rattle.std.specs.Option.{option_map}
 use Rattle.ws_model.specs.declared.answers.Kind.{Kind}
 use Rattle.ws_model.specs.declared.answers.Kind.TheVariants.{Journal, Leases, Numbers, Pending}
+use Rattle.ws_model.specs.declared.event.Alg.{Alg}
 use Rattle.ws_model.specs.declared.event.Event.{Event}
 use Rattle.ws_model.specs.declared.event.Intent.{Intent}
-use Rattle.ws_model.specs.declared.event.Mode.TheVariants.{On}
+use Rattle.ws_model.specs.declared.event.Mode.TheVariants.{Off, On}
 use Rattle.ws_model.specs.declared.event.What.{What}
 use Rattle.ws_model.specs.declared.event.What.TheVariants.{Asked, Barred, Confirmed, Fetched, Pinged, Pushed, Revoked, Tally}
 use Rattle.ws_model.specs.declared.lease.Lease.{Lease}
@@ -51,10 +52,14 @@ serials_unstored h ws = neither (nat_lt (number_limit - 1) (serial h + length ws
 numbers_unstored : (h : List Event) (ws : List What) → names_journal (within_numbers h ws) ≡ false
 numbers_unstored h ws = neither (nat_lt (number_limit - 1) (serial h + length ws)) _ _ refl (neither (intent_number h == number_limit - 1) _ _ refl refl)
 
+abbrev unsubscription : List Event → Alg → List ℕ → List ℕ → List ℕ → Intent
+unsubscription h alg topic echo callback = record { n = suc (intent_number h); mode = Off; topic = topic; echo = echo; callback = callback; secret = []; granted = 0; alg = alg }
+
 pub answers_unstored : (h : List Event) (t : ℕ) (ask : Ask) (policy : Policy) → names_journal (answer h t ask policy) ≡ false
 answers_unstored h t (Subscribe topic echo callback secret granted) policy =
     neither (nat_lt pending_limit (length (pending h) + 1)) _ _ refl (neither (nat_lt lease_limit (held_leases h t + 1)) _ _ refl (numbers_unstored h _))
-answers_unstored h t (Unsubscribe topic echo callback) policy = neither (nat_lt pending_limit (length (pending h) + 1)) _ _ refl (numbers_unstored h _)
+answers_unstored h t (Unsubscribe topic echo callback) policy =
+    neither (nat_lt pending_limit (length (pending h) + 1)) _ _ refl (numbers_unstored h (Asked (unsubscription h policy.alg topic echo callback) ∷ []))
 answers_unstored h t (Publish topics) policy = serials_unstored h _
 
 numbers_quiet : (h : List Event) (ws : List What) → are_quiet ws ≡ true → makes_quiet (within_numbers h ws) ≡ true
@@ -73,8 +78,9 @@ answers_quiet h t (Subscribe topic echo callback secret granted) policy =
     let i : Intent = record { n = suc (intent_number h); mode = On; topic = topic; echo = echo; callback = callback; secret = secret; granted = granted; alg = policy.alg } in
     either (nat_lt pending_limit (length (pending h) + 1)) _ _ refl (either (nat_lt lease_limit (held_leases h t + 1)) _ _ refl
     (numbers_quiet h (subscription_events policy.allow i) (subscription_quiet (is_disallowed policy.allow topic) i (codes "topic not allowed"))))
-answers_quiet h t (Unsubscribe topic echo callback) policy = either (nat_lt pending_limit (length (pending h) + 1)) _ _ refl (numbers_quiet h _ refl)
-answers_quiet h t (Publish topics) policy = either (nat_lt (number_limit - 1) (serial h + length (map (λ topic. Pinged topic) (filter (has_live_lease h t) (first_mentions topics))))) _ _ refl (pings_quiet _)
+answers_quiet h t (Unsubscribe topic echo callback) policy =
+    either (nat_lt pending_limit (length (pending h) + 1)) _ _ refl (numbers_quiet h (Asked (unsubscription h policy.alg topic echo callback) ∷ []) refl)
+answers_quiet h t (Publish topics) policy = either (nat_lt (number_limit - 1) (serial h + length (map (λ topic. Pinged topic) (filter (has_live_lease h t) (first_mentions topics))))) _ _ refl (pings_quiet (filter (has_live_lease h t) (first_mentions topics)))
 
 -- what a request makes
 pub asked_quiet : (h : List Event) (t : ℕ) (ask : Ask) (policy : Policy) (ws : List What) → answer h t ask policy ≡ Events ws → are_quiet ws ≡ true

@@ -70,3 +70,6 @@ one_without h w k = rw (no_room number_limit (serial h) k) refl
 
 pub one_within : (h : List Event) (w : What) → serial h < number_limit - 1 → within_serials h (w ∷ []) ≡ Events (w ∷ [])
 one_within h w k = rw (some_room number_limit (serial h) k) refl
+
+pub room_left : (s held : ℕ) → held ≡ s → held < number_limit - 1 → suc s < number_limit
+room_left s held e k = omega arith

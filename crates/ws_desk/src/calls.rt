@@ -9,7 +9,7 @@ ghost use Rattle.ws_desk.specs.Seen.{Seen, moment_of, settings_of};
 use crate::Desk;
 use ws_answer::CoreFault;
 use ws_form::Ask;
-use ws_model::{Account, Key, Kind, What};
+use ws_model::{Account, Event, Key, Kind, What};
 use ws_port::{DeskFault, Port, Told};
 
 /// The greatest serial.
@@ -83,7 +83,8 @@ impl Desk {
                 limit: LAST_SERIAL,
             });
         }
-        Ok(self.commit_one(t, what)?)
+        let serial = held + 1;
+        Ok(self.add(&Event { serial, t, what })?)
     }
 }
 

@@ -51,26 +51,26 @@ impl Desk {
         })
     }
 
-    /// Adds one thing that happens at a hub time, under the next serial. At an error the desk is as it was.
-    pub(crate) fn commit_one(&mut self, t: u64, what: What) -> Result<Told, NoMemory>
-        requires later { moment_of self.old ≤ t }
-        requires bounded { t < 2 ^ 48 }
-        requires new { is_new what ≡ true }
-        requires may { MayCommit (past_of self.old) t (what ∷ []) }
-        ensures ok { OnOk result (Commits t (what ∷ []) self.old self.new) }
-        ensures told { IfOk result (Tells (what ∷ []) self.old) }
-        ensures time { OnOk result (moment_of self.new ≡ t) }
+    /// Adds one event, whose time is a hub time, and whose serial is the next one. At an error the desk is as
+    /// it was.
+    pub(crate) fn add(&mut self, event: &Event) -> Result<Told, NoMemory>
+        requires later { moment_of self.old ≤ event.now.t }
+        requires bounded { event.now.t < 2 ^ 48 }
+        requires new { is_new event.now.what ≡ true }
+        requires next { (h : List Event) → Seen self.old h → event.now.serial ≡ suc (serial h) }
+        requires may { MayCommit (past_of self.old) event.now.t (event.now.what ∷ []) }
+        ensures ok { OnOk result (Commits event.now.t (event.now.what ∷ []) self.old self.new) }
+        ensures told { IfOk result (Tells (event.now.what ∷ []) self.old) }
+        ensures time { OnOk result (moment_of self.new ≡ event.now.t) }
         ensures settings { settings_of self.new ≡ settings_of self.old }
         ensures err { OnErr result (self.new ≡ self.old) }
     {
         let Some(count) = self.count.checked_add(1) else {
             return Err(NoMemory);
         };
-        let serial = self.core.serial() + 1;
-        let event = Event { serial, t, what };
-        let past = self.past.with(t, slice::from_ref(&event.what));
-        self.core.apply(&event)?;
-        self.used = t;
+        let past = self.past.with(event.t, slice::from_ref(&event.what));
+        self.core.apply(event)?;
+        self.used = event.t;
         self.count = count;
         self.past = past;
         Ok(Told {

@@ -132,6 +132,13 @@ fn with_body(alloc: Global, line: &str, size: usize) -> Result<Vec<u8>, Fail> {
     Ok(script)
 }
 
+fn has_body(happening: &Happening, size: usize) -> bool {
+    match happening {
+        Happening::Form(body) | Happening::In(body) => body.as_slice().len() == size,
+        _ => false,
+    }
+}
+
 fn check_body(
     rt: &impl Abort,
     alloc: Global,
@@ -141,10 +148,10 @@ fn check_body(
 ) -> Result<(), Fail> {
     let script = with_body(alloc, line, size)?;
     let mut source = MemSource::made(alloc, &script, &[], &[])?;
-    let taken = match take_happening(alloc, &mut source, false)? {
-        Some(Happening::Form(body)) => line.starts_with("form") && body.as_slice().len() == size,
-        Some(Happening::In(bytes)) => line.starts_with("in") && bytes.as_slice().len() == size,
-        _ => false,
+    let read = take_happening(alloc, &mut source, false)?;
+    let taken = match &read {
+        Some(happening) => has_body(happening, size),
+        None => false,
     };
     assert!(rt; taken == is_taken, "{line}");
     Ok(())
@@ -234,6 +241,16 @@ fn push_word(script: &mut Vec<u8>, front: &str, size: usize) -> Result<(), Fail>
     Ok(())
 }
 
+fn has_words(happening: &Happening, topic_size: usize, callback_size: usize) -> bool {
+    match happening {
+        Happening::Revoke { topic, callback } => {
+            topic.text.as_slice().len() == topic_size
+                && callback.text.as_slice().len() == callback_size
+        }
+        _ => false,
+    }
+}
+
 fn check_words(
     rt: &impl Abort,
     alloc: Global,
@@ -247,12 +264,10 @@ fn check_words(
     push_word(&mut script, "http://sub.example/", callback_size)?;
     script.push(b'\n')?;
     let mut source = MemSource::made(alloc, &script, &[], &[])?;
-    let taken = match take_happening(alloc, &mut source, false)? {
-        Some(Happening::Revoke { topic, callback }) => {
-            topic.text.as_slice().len() == topic_size
-                && callback.text.as_slice().len() == callback_size
-        }
-        _ => false,
+    let read = take_happening(alloc, &mut source, false)?;
+    let taken = match &read {
+        Some(happening) => has_words(happening, topic_size, callback_size),
+        None => false,
     };
     assert!(rt; taken == is_taken, "{topic_size} {callback_size}");
     Ok(())

@@ -3,11 +3,11 @@
 
 mod account_text;
 mod connection;
-mod drive;
 mod happen;
 mod lines;
 mod output;
+mod own_hub;
 mod play;
 
-pub use drive::drive;
+pub use own_hub::drive;
 pub use play::{Stop, Turn, drive_over};

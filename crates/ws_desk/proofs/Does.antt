@@ -1,21 +1,15 @@
 -- What a call that does what its answer says leaves.
-use Rattle.std.proofs.Common.{◌≡◌, ℕ, suc, ◌≤◌, ◌<◌, ◌+◌, ◌-◌, ◌^◌, Bool, true, false, cond, List, [], ◌∷◌, ◌++◌, length, min, max, refl, ap, sym, ◌∙◌, subst, arith, Option, Some, None, Result, Ok, Err}
-use Rattle.std.specs.Prelude.{nat_lt}
-use Rattle.std.proofs.lemmas.Bool.Decides.{nat_tests}
+use Rattle.std.proofs.Common.{◌≡◌, ℕ, ◌≤◌, ◌<◌, ◌+◌, ◌^◌, true, false, List, [], refl, ap, sym, ◌∙◌, subst, arith, Result, Ok, Err}
 use Rattle.ws_model.specs.declared.answers.Kind.{Kind}
-use Rattle.ws_model.specs.declared.answers.Kind.TheVariants.{Journal, Leases, Numbers, Pending}
+use Rattle.ws_model.specs.declared.answers.Kind.TheVariants.{Journal}
 use Rattle.ws_model.specs.declared.event.Event.{Event}
-use Rattle.ws_model.specs.declared.event.What.{What}
-use Rattle.ws_model.specs.Answer.{Answer, Events, Full, within_serials}
-use Rattle.ws_model.specs.Legal.{Legal, number_limit}
-use Rattle.ws_model.specs.Moment.{serial, time}
+use Rattle.ws_model.specs.Answer.{Answer, Full}
 use Rattle.ws_port.specs.declared.fault.DeskFault.{DeskFault}
 use Rattle.ws_port.specs.declared.fault.DeskFault.TheVariants.{Disk, Full as IsFull, NoMemory}
 use Rattle.ws_port.specs.declared.port.Told.{Told}
-use Rattle.ws_port.specs.Calls.{Answered, HubTime, IsDiskCause, IsHubTime, IsUnstored, Said, committed, last_moment, uses_time}
+use Rattle.ws_port.specs.Calls.{Answered, HubTime, IsDiskCause, IsHubTime, IsUnstored, Said, uses_time}
 use Rattle.ws_desk.specs.declared.owner.Desk.{Desk}
-use Rattle.ws_desk.specs.Commits.{Added, Does, Refused, Tells, hub_time}
-use Rattle.ws_desk.specs.Holds.{Holds}
+use Rattle.ws_desk.specs.Commits.{Added, Does, Refused, hub_time}
 use Rattle.ws_desk.specs.Seen.{Seen, moment_of}
 use Rattle.ws_desk.proofs.Quiet.{names_journal}
 

@@ -1,5 +1,5 @@
 -- What stands from a moment on stands from a later one on.
-use Rattle.std.proofs.Common.{◌≡◌, ℕ, ◌≤◌, List, arith}
+use Rattle.std.proofs.Common.{ℕ, ◌≤◌, List, arith}
 use Rattle.ws_model.specs.declared.event.Event.{Event}
 use Rattle.ws_core.specs.Rows.{Rows}
 use Rattle.ws_core.specs.Stands.{StandsFor}

@@ -1,16 +1,15 @@
 -- What requests and revocations make.
-use Rattle.std.proofs.Common.{◌≡◌, ℕ, suc, ◌≤◌, ◌<◌, ◌+◌, ◌-◌, Bool, true, false, cond, List, [], ◌∷◌, length, refl, ap, sym, subst, arith, Option, Some, None}
+use Rattle.std.proofs.Common.{◌≡◌, ℕ, suc, ◌+◌, ◌-◌, Bool, true, false, cond, List, [], ◌∷◌, length, refl, ap, subst, Option, Some, None}
 use Rattle.std.specs.Prelude.{codes, map, filter, nat_lt, ◌==◌, ◌&&◌}
 use Rattle.std.specs.List.{list_all}
 use Rattle.std.specs.Option.{option_map}
-use Rattle.ws_model.specs.declared.answers.Kind.{Kind}
-use Rattle.ws_model.specs.declared.answers.Kind.TheVariants.{Journal, Leases, Numbers, Pending}
+use Rattle.ws_model.specs.declared.answers.Kind.TheVariants.{Journal}
 use Rattle.ws_model.specs.declared.event.Alg.{Alg}
 use Rattle.ws_model.specs.declared.event.Event.{Event}
 use Rattle.ws_model.specs.declared.event.Intent.{Intent}
 use Rattle.ws_model.specs.declared.event.Mode.TheVariants.{Off, On}
 use Rattle.ws_model.specs.declared.event.What.{What}
-use Rattle.ws_model.specs.declared.event.What.TheVariants.{Asked, Barred, Confirmed, Fetched, Pinged, Pushed, Revoked, Tally}
+use Rattle.ws_model.specs.declared.event.What.TheVariants.{Asked, Barred, Pinged, Revoked, Tally}
 use Rattle.ws_model.specs.declared.lease.Lease.{Lease}
 use Rattle.ws_model.specs.declared.settings.Policy.{Policy}
 use Rattle.ws_model.specs.Answer.{Answer, Events, Full, first_mentions, has_live_lease, held_leases, is_disallowed, lease_limit, pending_limit, subscription_events, within_numbers, within_serials}

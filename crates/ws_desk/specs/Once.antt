@@ -1,14 +1,12 @@
 -- That a desk stands for a history in one way at most, so that its type can carry the fact (own).
-use Rattle.std.specs.Prelude.{◌≡◌, ℕ, Bool, true, List, [], ◌∷◌, Option, Some, find, ◌==◌}
-use Rattle.std.specs.Coded.{×_prop, Unit-prop, le_prop}
+use Rattle.std.specs.Prelude.{◌≡◌, ℕ, true, List, [], ◌∷◌, Option, Some, find, ◌==◌}
+use Rattle.std.specs.Coded.{×_prop, Unit-prop}
 use Rattle.std.proofs.Common.{sym, ◌∙◌}
 use Rattle.std.proofs.Props.{props}
 use mathlib.Core.HLevel.{is_prop→PathP}
 use native.Mathlib.Nat.{ℕ_set}
 use mathlib.Core.Bool.{Bool-set}
 use Rattle.ws_model.specs.declared.event.Event.{Event}
-use Rattle.ws_model.specs.declared.event.Intent.{Intent}
-use Rattle.ws_model.specs.declared.event.Version.{Version}
 use Rattle.ws_model.specs.declared.lease.Lease.{Lease}
 use Rattle.ws_model.specs.History.{has}
 use Rattle.ws_model.specs.Leases.{expiry, leases}
@@ -27,6 +25,9 @@ lease_set = hlevel props
 same_lease : (l m : Lease) → Some l ≡ Some m → l ≡ m
 same_lease l m e = cc
 
+abbrev numbered : List Event → ℕ → Option Lease
+numbered h n = find (λ l. l.intent.n == n) (leases h)
+
 -- a pair's lease is the history's, so there is one
 of_history_prop : (h : List Event) (v n : ℕ) (p : OpenPair) → IsProp (IsOfHistory h v n p)
 of_history_prop h v n p a b =
@@ -34,7 +35,7 @@ of_history_prop h v n p a b =
     λ i. record {
       fetched = Bool-set (has (is_fetched v) h) true a.fetched b.fetched i;
       lease = e i;
-      leased = is_prop→PathP (λ j. find (λ l. l.intent.n == n) (leases h) ≡ Some (e j)) (λ j. lease_set (find (λ l. l.intent.n == n) (leases h)) (Some (e j))) a.leased b.leased i;
+      leased = is_prop→PathP (λ j. numbered h n ≡ Some (e j)) (λ j. lease_set (numbered h n) (Some (e j))) a.leased b.leased i;
       end = is_prop→PathP (λ j. p.exp ≡ expiry (e j)) (λ j. ℕ_set p.exp (expiry (e j))) a.end b.end i;
     }
 

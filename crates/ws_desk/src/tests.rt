@@ -55,41 +55,56 @@ fn waiting<P: Port>(port: &mut P, now: u64) -> (u64, u64) {
     (account.pending, account.notices)
 }
 
+// What a desk that allows a prefix tells of a form at 1000, what waits then, and what it tells of the end of
+// a lease.
+fn played(alloc: Global, prefix: &str, form: &str) -> Result<(Told, (u64, u64), Told), Fail> {
+    let mut desk = desk(alloc, prefix)?;
+    let told = asked(alloc, &mut desk, 1000, form)?;
+    let waits = waiting(&mut desk, 1000);
+    let ended = revoked(alloc, &mut desk, 1000)?;
+    Ok((told, waits, ended))
+}
+
+// How many events a desk tells, the hub times after two subscriptions, the second at an earlier clock, and
+// after an account at the latest one.
+fn hub_times(alloc: Global) -> Result<(u64, u64, u64, u64), Fail> {
+    let mut desk = desk(alloc, "")?;
+    asked(alloc, &mut desk, 1000, SUBSCRIPTION)?;
+    let first = desk.time();
+    let told = asked(alloc, &mut desk, 500, SUBSCRIPTION)?;
+    let second = desk.time();
+    waiting(&mut desk, u64::MAX);
+    Ok((told.at, first, second, desk.time()))
+}
+
 #[test]
 fn requests(rt: HostRuntime) -> Result<(), Fail> {
     let alloc = rt.alloc();
-    // The prefix that is allowed, the form, the length and the events that are told, and what waits then.
-    let cases = [
-        ("", SUBSCRIPTION, 1, 1, (1, 0)),
-        ("http://pub.example/", SUBSCRIPTION, 1, 1, (1, 0)),
-        ("http://other.example/", SUBSCRIPTION, 2, 2, (0, 1)),
-        ("", PUBLICATION, 0, 0, (0, 0)),
-    ];
-    for (prefix, form, at, events, waits) in cases {
-        let mut desk = desk(alloc, prefix)?;
-        assert_eq!(rt; asked(alloc, &mut desk, 1000, form)?, Told { at, events });
-        assert_eq!(rt; waiting(&mut desk, 1000), waits);
-        assert_eq!(rt; revoked(alloc, &mut desk, 1000)?, Told { at, events: 0 });
-    }
+    let none = Told { at: 0, events: 0 };
+    let one = Told { at: 1, events: 1 };
+    let one_before = Told { at: 1, events: 0 };
+    let two = Told { at: 2, events: 2 };
+    let two_before = Told { at: 2, events: 0 };
+    let allowed = "http://pub.example/";
+    let other = "http://other.example/";
+    assert_eq!(rt; played(alloc, "", SUBSCRIPTION)?, (one, (1, 0), one_before));
+    assert_eq!(rt;
+        played(alloc, allowed, SUBSCRIPTION)?,
+        (one, (1, 0), one_before)
+    );
+    assert_eq!(rt;
+        played(alloc, other, SUBSCRIPTION)?,
+        (two, (0, 1), two_before)
+    );
+    assert_eq!(rt; played(alloc, "", PUBLICATION)?, (none, (0, 0), none));
     Ok(())
 }
 
 #[test]
 fn hub_time_does_not_go_back(rt: HostRuntime) -> Result<(), Fail> {
-    let alloc = rt.alloc();
-    let mut desk = desk(alloc, "")?;
-    assert_eq!(rt; desk.time(), 0);
     assert_eq!(rt;
-        asked(alloc, &mut desk, 1000, SUBSCRIPTION)?,
-        Told { at: 1, events: 1 }
+        hub_times(rt.alloc())?,
+        (2, 1000, 1000, 281_474_976_710_655)
     );
-    assert_eq!(rt; desk.time(), 1000);
-    assert_eq!(rt;
-        asked(alloc, &mut desk, 500, SUBSCRIPTION)?,
-        Told { at: 2, events: 1 }
-    );
-    assert_eq!(rt; desk.time(), 1000);
-    assert_eq!(rt; waiting(&mut desk, u64::MAX), (2, 0));
-    assert_eq!(rt; desk.time(), 281_474_976_710_655);
     Ok(())
 }

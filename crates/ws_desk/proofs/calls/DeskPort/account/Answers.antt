@@ -1,4 +1,4 @@
-use Rattle.std.proofs.Common.{◌≡◌, ◌≤◌, true, [], refl, sym, subst, arith}
+use Rattle.std.proofs.Common.{◌≡◌, ◌≤◌, [], refl, sym, subst, arith}
 use Rattle.ws_model.specs.Account.{account}
 use Rattle.ws_desk.proofs.calls.DeskPort.account.Goals as goal
 

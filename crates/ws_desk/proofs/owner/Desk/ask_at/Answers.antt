@@ -1,6 +1,3 @@
-use Rattle.std.proofs.Common.{◌≡◌, arith, ◌≤◌}
-use Rattle.ws_model.specs.Answer.{Events}
-use Rattle.ws_port.specs.Requests.{answer}
 use Rattle.ws_commit.proofs.Answered.{answers_commit}
 use Rattle.ws_desk.proofs.Committed.{before}
 use Rattle.ws_desk.proofs.Quiet.{asked_quiet}

@@ -1,5 +1,4 @@
-use Rattle.std.proofs.Common.{◌≡◌, ◌+◌, length, refl, arith, sym, ◌∙◌}
-use Rattle.ws_core.specs.Committing.{AllGoOn}
+use Rattle.std.proofs.Common.{◌≡◌, ◌+◌, length, arith}
 use Rattle.ws_desk.proofs.Committed.{goes_on, moved_past}
 use Rattle.ws_desk.proofs.Quiet.{quiet_new}
 use Rattle.ws_desk.proofs.owner.Desk.commit.Goals as goal

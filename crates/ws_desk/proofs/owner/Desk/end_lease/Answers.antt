@@ -1,4 +1,4 @@
-use Rattle.std.proofs.Common.{◌≡◌, ◌<◌, ◌≤◌, ◌-◌, ◌∷◌, [], suc, sym, subst, arith}
+use Rattle.std.proofs.Common.{◌≡◌, ◌<◌, ◌≤◌, ◌-◌, ◌∷◌, [], sym, subst, arith}
 use Rattle.ws_model.specs.declared.answers.Kind.TheVariants.{Numbers}
 use Rattle.ws_model.specs.Answer.{Full, within_serials}
 use Rattle.ws_model.specs.Legal.{number_limit}

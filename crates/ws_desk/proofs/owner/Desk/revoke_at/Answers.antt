@@ -1,6 +1,5 @@
-use Rattle.std.proofs.Common.{◌≡◌, ◌+◌, Some, length, [], ap, sym, ◌∙◌, refl, arith}
+use Rattle.std.proofs.Common.{Some, length, [], ap, sym, ◌∙◌, refl}
 use Rattle.ws_model.specs.Answer.{within_serials}
-use Rattle.ws_model.specs.Revocation.{revocation}
 use Rattle.ws_port.specs.Requests.{one_or_none, revocation_answer}
 use Rattle.ws_commit.proofs.Answered.{revocations_commit}
 use Rattle.ws_desk.proofs.Committed.{before}

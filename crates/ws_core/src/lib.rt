@@ -1,5 +1,5 @@
 //! The hub's core: the tables with what became of each pair. It applies what happened, and says what may
-//! follow, what is due, what a request makes and what became of each pair.
+//! follow, what is due, what a request and what a ticket's outcome make, and what became of each pair.
 #![tactic(auto)]
 
 mod accepting;
@@ -14,6 +14,7 @@ pub mod laws;
 mod looking;
 mod pushed;
 mod quiet;
+mod settling;
 mod sound;
 mod steps;
 mod whole;

@@ -202,7 +202,7 @@ fn picked<'a>(intents: &'a [Intent], chance: &mut Chance) -> Option<&'a Intent> 
 // The owed pairs, the oldest first.
 fn owed(history: &History) -> Result<Vec<PairFate>, NoMemory> {
     let mut owed = Vec::new(history.alloc);
-    let fates = ws_plain::fates(history.alloc, &history.events, history.t)?;
+    let fates = ws_plain::all_fates(history.alloc, &history.events, history.t)?;
     for pair in fates.iter().rev() {
         if matches!(pair.fate, Fate::Owed { .. }) {
             owed.push(*pair)?;

@@ -20,7 +20,7 @@ pub fn agrees_at(
         return Ok(false);
     }
     let live = ws_plain::live(alloc, events, t)?;
-    let fates = ws_plain::fates(alloc, events, t)?;
+    let fates = ws_plain::all_fates(alloc, events, t)?;
     Ok(
         leases_agree(tables, events, &live, t)
             && fates_agree(tables, events, &fates, t)

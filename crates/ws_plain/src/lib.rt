@@ -26,7 +26,7 @@ pub use compaction::keep;
 pub use counts::account;
 pub use intents::{notices, pending};
 pub use leases::live;
-pub use pair_fates::{PairFate, fates};
+pub use pair_fates::{PairFate, all_fates};
 pub use pairs::fate;
 pub use works::due;
 

@@ -39,7 +39,7 @@ fn fates_of(
 /// The fates at a time in seconds of all pairs, of events that are given oldest first, the newest pair
 /// first (WebSub section 7). A next try past 2^64 - 1 is given as that number. It fails only for want of
 /// memory.
-pub fn fates(alloc: Global, events: &[Event], t: u64) -> Result<Vec<PairFate>, NoMemory>
+pub fn all_fates(alloc: Global, events: &[Event], t: u64) -> Result<Vec<PairFate>, NoMemory>
     ensures { IfOk result (λ v. v.items ≡ map (pair_fate (past events.now) t) (pairs (past events.now))) }
 {
     let pairs = pairs(alloc, events)?;

@@ -1,7 +1,7 @@
 // The table of deliveries.
 
 use crate::made::{held_pushes, spread};
-use crate::{CALLS, NOW, row};
+use crate::{CALLS, NOW, WALKS, row};
 use anyhow::Result;
 use std::alloc::Global;
 use std::rt::Clock;
@@ -82,6 +82,55 @@ fn next_pushes(table: &Deliveries, held: &Held) -> u64 {
     answers
 }
 
+fn ends(table: &Deliveries, size: u64) -> u64 {
+    let mut answers = 0u64;
+    for at in 0..CALLS {
+        let open = table.end_of(spread(at, size)).is_some();
+        answers = answers.saturating_add(u64::from(open));
+    }
+    answers
+}
+
+fn all_open(table: &Deliveries) -> u64 {
+    let mut answers = 0u64;
+    for _ in 0..CALLS {
+        answers = answers.saturating_add(table.count());
+    }
+    answers
+}
+
+fn lists(table: &Deliveries, size: u64) -> u64 {
+    let mut answers = 0u64;
+    for at in 0..CALLS {
+        for ver in table.open_of(spread(at, size)) {
+            answers = answers.saturating_add(ver);
+        }
+    }
+    answers
+}
+
+// Each call goes over all open pairs.
+fn versions(alloc: Global, table: &Deliveries) -> Result<u64, NoMemory> {
+    let mut answers = 0u64;
+    for _ in 0..WALKS {
+        let owed = table.owed_versions(alloc, NOW)?;
+        answers = answers.saturating_add(owed.len() as u64);
+    }
+    Ok(answers)
+}
+
+// The old leases' pairs stay open.
+fn renews(table: &mut Deliveries, size: u64) -> Result<(), NoMemory> {
+    for at in 0..CALLS {
+        let old = size.saturating_add(at);
+        let new = old.saturating_add(2 * CALLS);
+        if table.end_of(new).is_none() {
+            let _ = table.renew(old, new, END, NOW)?;
+        }
+    }
+    Ok(())
+}
+
 fn carries(table: &mut Deliveries, size: u64) -> Result<(), NoMemory> {
     for at in 0..CALLS {
         let old = size.saturating_add(at);
@@ -93,9 +142,9 @@ fn carries(table: &mut Deliveries, size: u64) -> Result<(), NoMemory> {
     Ok(())
 }
 
-fn close_leases(table: &mut Deliveries, size: u64) {
+fn close_leases(table: &mut Deliveries, from: u64) {
     for at in 0..CALLS {
-        let _ = table.close_lease(size.saturating_add(CALLS).saturating_add(at));
+        let _ = table.close_lease(from.saturating_add(at));
     }
 }
 
@@ -107,10 +156,14 @@ pub fn measure(rt: &(impl Clock + Print), alloc: Global, size: u64) -> Result<()
     fill(&mut table, size, size.saturating_add(CALLS), 10)?;
     row(rt, size, "born", start, CALLS * 10, 0)?;
     let start = Instant::now(rt)?;
+    renews(&mut table, size)?;
+    row(rt, size, "renew/pair", start, CALLS * 10, 0)?;
+    close_leases(&mut table, size.saturating_add(2 * CALLS));
+    let start = Instant::now(rt)?;
     carries(&mut table, size)?;
     row(rt, size, "carry/pair", start, CALLS * 10, 0)?;
     let start = Instant::now(rt)?;
-    close_leases(&mut table, size);
+    close_leases(&mut table, size.saturating_add(CALLS));
     row(rt, size, "close_lease/pair", start, CALLS * 10, 0)?;
     measure_asking(rt, alloc, size, &table)?;
     let start = Instant::now(rt)?;
@@ -133,6 +186,27 @@ fn measure_asking(
     let start = Instant::now(rt)?;
     let answers = counts(table);
     row(rt, size, "owed", start, CALLS, answers)?;
+    let start = Instant::now(rt)?;
+    let answers = ends(table, size);
+    row(rt, size, "end_of", start, CALLS, answers)?;
+    let start = Instant::now(rt)?;
+    let answers = all_open(table);
+    row(rt, size, "deliveries/count", start, CALLS, answers)?;
+    let start = Instant::now(rt)?;
+    let answers = lists(table, size);
+    row(rt, size, "open_of", start, CALLS, answers)?;
+    let start = Instant::now(rt)?;
+    let answers = versions(alloc, table)?;
+    row(rt, size, "owed_versions", start, WALKS, answers)?;
+    measure_due(rt, alloc, size, table)
+}
+
+fn measure_due(
+    rt: &(impl Clock + Print),
+    alloc: Global,
+    size: u64,
+    table: &Deliveries,
+) -> Result<()> {
     let none = Held::empty(alloc);
     let start = Instant::now(rt)?;
     let answers = next_pushes(table, &none);

@@ -26,11 +26,41 @@ pub fn fill(alloc: Global, table: &mut Leases, from: u64, to: u64) -> Result<(),
     Ok(())
 }
 
+// Leases of these numbers and so much more, each in the place of one that is live.
+fn renew(alloc: Global, table: &mut Leases, from: u64, to: u64, more: u64) -> Result<(), NoMemory> {
+    for old in from..to {
+        let mut intent = intent(alloc, old)?;
+        intent.n = old.saturating_add(more);
+        if !table.holds(intent.n) {
+            let _ = table.confirm(Lease { intent, sent: NOW }, NOW)?;
+        }
+    }
+    Ok(())
+}
+
 fn gets(table: &Leases, size: u64) -> u64 {
+    let mut answers = 0u64;
+    for at in 0..CALLS {
+        let found = table.get(spread(at, size), NOW).is_some();
+        answers = answers.saturating_add(u64::from(found));
+    }
+    answers
+}
+
+fn lives(table: &Leases, size: u64) -> u64 {
     let mut answers = 0u64;
     for at in 0..CALLS {
         let live = table.live(spread(at, size), NOW);
         answers = answers.saturating_add(u64::from(live));
+    }
+    answers
+}
+
+fn helds(table: &Leases, size: u64) -> u64 {
+    let mut answers = 0u64;
+    for at in 0..CALLS {
+        let held = table.holds(spread(at, size));
+        answers = answers.saturating_add(u64::from(held));
     }
     answers
 }
@@ -88,6 +118,9 @@ pub fn measure(rt: &(impl Clock + Print), alloc: Global, size: u64) -> Result<()
     let start = Instant::now(rt)?;
     fill(alloc, &mut table, size, size.saturating_add(CALLS))?;
     row(rt, size, "confirm", start, CALLS, 0)?;
+    let start = Instant::now(rt)?;
+    renew(alloc, &mut table, size, size.saturating_add(CALLS), CALLS)?;
+    row(rt, size, "confirm/renewal", start, CALLS, 0)?;
     measure_asking(rt, alloc, size, &table)?;
     let start = Instant::now(rt)?;
     ends(&mut table, size);
@@ -104,8 +137,14 @@ fn measure_asking(
     table: &Leases,
 ) -> Result<()> {
     let start = Instant::now(rt)?;
-    let answers = gets(table, size);
+    let answers = lives(table, size);
     row(rt, size, "live", start, CALLS, answers)?;
+    let start = Instant::now(rt)?;
+    let answers = gets(table, size);
+    row(rt, size, "get", start, CALLS, answers)?;
+    let start = Instant::now(rt)?;
+    let answers = helds(table, size);
+    row(rt, size, "holds", start, CALLS, answers)?;
     let start = Instant::now(rt)?;
     let answers = finds(alloc, table, size)?;
     row(rt, size, "find", start, CALLS, answers)?;

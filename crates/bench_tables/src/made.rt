@@ -57,6 +57,15 @@ pub fn held_verifications(alloc: Global) -> Result<Held, NoMemory> {
     Ok(held)
 }
 
+/// Tickets for the first notices.
+pub fn held_notices(alloc: Global) -> Result<Held, NoMemory> {
+    let mut held = Held::empty(alloc);
+    for n in 0..TICKETS {
+        held.push(Work::Notice { n })?;
+    }
+    Ok(held)
+}
+
 /// Tickets for the first fetches.
 pub fn held_fetches(alloc: Global) -> Result<Held, NoMemory> {
     let mut held = Held::empty(alloc);

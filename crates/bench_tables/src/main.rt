@@ -9,6 +9,7 @@ mod deliveries;
 mod intents;
 mod leases;
 mod made;
+mod notices;
 mod topics;
 
 use anyhow::Result;
@@ -20,6 +21,9 @@ use ws_lease::Leases;
 
 /// How often each call is made.
 pub const CALLS: u64 = 256;
+
+/// How often a call is made that goes over all that is held.
+pub const WALKS: u64 = 4;
 
 /// The moment at which all is made, in seconds.
 pub const NOW: u64 = 1_000;
@@ -48,6 +52,7 @@ fn main(rt: HostRuntime) -> Result<()> {
     for size in &sizes {
         let size = u64::from(*size);
         intents::measure(&rt, rt.alloc(), size)?;
+        notices::measure(&rt, rt.alloc(), size)?;
         leases::measure(&rt, rt.alloc(), size)?;
         topics::measure(&rt, rt.alloc(), size)?;
         deliveries::measure(&rt, rt.alloc(), size)?;

@@ -1,24 +1,43 @@
-// What the tables answer, beside what the plain program computes from the events.
+// What the tables answer whatever the time is, beside what the plain program computes from the events.
 
-use crate::due::due_agrees;
 use crate::made::TOPICS;
+use crate::moment::agrees_at;
 use crate::tables::{TIME_LIMIT, Tables};
 use std::alloc::Global;
-use ws_model::{Event, Fate, Lease, Mode, NoMemory, Version, What};
+use ws_model::{Event, Intent, Mode, NoMemory, Version, What};
 
-/// Whether the tables answer at `t` as the definitions do.
-pub fn agrees(alloc: Global, tables: &Tables, events: &[Event], t: u64) -> Result<bool, NoMemory> {
-    if t >= TIME_LIMIT {
+/// Whether the tables answer as the definitions do, at each of these seconds after a time that isn't before
+/// the last event. What doesn't go by the time is asked for once.
+pub fn agree_later(
+    alloc: Global,
+    tables: &Tables,
+    events: &[Event],
+    now: u64,
+    later: &[u64],
+) -> Result<bool, NoMemory> {
+    if !agrees_whenever(alloc, tables, events, now)? {
         return Ok(false);
     }
+    for seconds in later {
+        if !agrees_at(alloc, tables, events, now.saturating_add(*seconds))? {
+            return Ok(false);
+        }
+    }
+    Ok(true)
+}
+
+fn agrees_whenever(
+    alloc: Global,
+    tables: &Tables,
+    events: &[Event],
+    now: u64,
+) -> Result<bool, NoMemory> {
     Ok(
         intents_agree(alloc, tables, events)?
             && notices_agree(alloc, tables, events)?
-            && leases_agree(alloc, tables, events, t)?
-            && counts_agree(alloc, tables, events, t)?
             && versions_agree(tables, events)
-            && deliveries_agree(alloc, tables, events, t)?
-            && due_agrees(alloc, tables, events, t)?,
+            && bodies_agree(tables, events)
+            && counts_agree(alloc, tables, events, now)?,
     )
 }
 
@@ -28,20 +47,34 @@ fn intents_agree(alloc: Global, tables: &Tables, events: &[Event]) -> Result<boo
         .iter()
         .filter(|intent| intent.mode == Mode::On)
         .count();
-    if tables.intents.subscriptions() != on as u64 {
+    if tables.intents.subscriptions() != on as u64
+        || tables.intents.last() != pending.first().map(|intent| intent.n)
+    {
         return Ok(false);
     }
     for intent in &pending {
-        match tables.intents.waiting(intent.n) {
-            Some(waiting) => {
-                if waiting.intent != *intent {
-                    return Ok(false);
-                }
-            }
-            None => return Ok(false),
+        if !waits(tables, &pending, intent) {
+            return Ok(false);
         }
     }
     Ok(true)
+}
+
+fn waits(tables: &Tables, pending: &[Intent], intent: &Intent) -> bool {
+    match tables.intents.waiting(intent.n) {
+        Some(waiting) => {
+            waiting.intent == *intent
+                && tables.intents.is_first(intent.n) == is_first(pending, intent)
+        }
+        None => false,
+    }
+}
+
+/// Whether no pending intent of the same topic and callback has a lower number.
+pub fn is_first(pending: &[Intent], intent: &Intent) -> bool {
+    !pending.iter().any(|other| {
+        other.n < intent.n && other.topic == intent.topic && other.callback == intent.callback
+    })
 }
 
 fn notices_agree(alloc: Global, tables: &Tables, events: &[Event]) -> Result<bool, NoMemory> {
@@ -59,68 +92,7 @@ fn notices_agree(alloc: Global, tables: &Tables, events: &[Event]) -> Result<boo
     Ok(true)
 }
 
-fn leases_agree(
-    alloc: Global,
-    tables: &Tables,
-    events: &[Event],
-    t: u64,
-) -> Result<bool, NoMemory> {
-    let live = ws_plain::live(alloc, events, t)?;
-    for topic in &TOPICS {
-        if !topic_agrees(tables, &live, topic.as_bytes(), t) {
-            return Ok(false);
-        }
-    }
-    for lease in &live {
-        if !lease_agrees(tables, lease, t) {
-            return Ok(false);
-        }
-    }
-    for n in 1..=number_asked(events) {
-        if t >= TIME_LIMIT || tables.leases.live(n, t) != is_among(&live, n) {
-            return Ok(false);
-        }
-    }
-    Ok(true)
-}
-
-fn is_among(leases: &[Lease], n: u64) -> bool {
-    leases.iter().any(|lease| lease.intent.n == n)
-}
-
-fn lease_agrees(tables: &Tables, lease: &Lease, t: u64) -> bool {
-    if t >= TIME_LIMIT {
-        return false;
-    }
-    let topic = lease.intent.topic.as_slice();
-    let callback = lease.intent.callback.as_slice();
-    let same = match tables.leases.get(lease.intent.n, t) {
-        Some(held) => held == lease,
-        None => false,
-    };
-    same && tables.leases.find(topic, callback, t) == Some(lease.intent.n)
-}
-
-// The live leases of a topic are all there, rising.
-fn topic_agrees(tables: &Tables, live: &[Lease], topic: &[u8], t: u64) -> bool {
-    if t >= TIME_LIMIT {
-        return false;
-    }
-    let mut left = live
-        .iter()
-        .filter(|lease| lease.intent.topic.as_slice() == topic)
-        .count();
-    let mut last = 0;
-    for n in tables.leases.live_of_topic(topic, t) {
-        if left == 0 || n <= last || !is_among(live, n) {
-            return false;
-        }
-        left -= 1;
-        last = n;
-    }
-    left == 0
-}
-
+// The account at one time; what it says of leases and pairs at others is in what is compared then.
 fn counts_agree(
     alloc: Global,
     tables: &Tables,
@@ -176,43 +148,21 @@ fn latest_agrees(tables: &Tables, latest: Option<&Version>, topic: &[u8]) -> boo
     }
 }
 
-fn deliveries_agree(
-    alloc: Global,
-    tables: &Tables,
-    events: &[Event],
-    t: u64,
-) -> Result<bool, NoMemory> {
+// The bodies of the versions that weren't forgotten.
+fn bodies_agree(tables: &Tables, events: &[Event]) -> bool {
+    let mut bytes = 0u64;
     for ver in 1..=number_fetched(events) {
-        for lease in 1..=number_asked(events) {
-            let plain = ws_plain::fate(alloc, events, ver, lease, t)?;
-            if !is_alike(plain, tables.deliveries.fate(ver, lease, t)) {
-                return Ok(false);
-            }
+        if let Some(version) = tables.topics.version(ver) {
+            bytes = bytes.saturating_add(version.body.as_slice().len() as u64);
         }
     }
-    Ok(true)
+    tables.topics.bodies() == bytes
 }
 
-// Versions count from 1, as intents do.
-fn number_fetched(events: &[Event]) -> u64 {
+/// How many versions were fetched. They count from 1, as intents do.
+pub fn number_fetched(events: &[Event]) -> u64 {
     let fetched = events
         .iter()
         .filter(|event| matches!(&event.what, What::Fetched(_)));
     fetched.count() as u64
-}
-
-fn number_asked(events: &[Event]) -> u64 {
-    let asked = events
-        .iter()
-        .filter(|event| matches!(&event.what, What::Asked(_)));
-    asked.count() as u64
-}
-
-// What is owed is open with the same tries, and what is open and not owed has expired.
-fn is_alike(plain: Option<Fate>, open: Option<Fate>) -> bool {
-    match (plain, open) {
-        (Some(Fate::Owed { .. }), _) => plain == open,
-        (_, Some(Fate::Owed { .. })) => false,
-        _ => true,
-    }
 }

@@ -5,8 +5,8 @@ use std::alloc::Global;
 use ws_intent::Due;
 use ws_model::{Bytes, Event, Held, NoMemory, Work};
 
-/// Whether each table's first due work is the definitions', with the tickets of none, one, two and three
-/// of the due works out.
+/// Whether each table's first due work is the definitions', with the tickets of the first due works out, of
+/// none up to all. No work is due twice, so what is left beside them is what comes behind.
 pub fn due_agrees(
     alloc: Global,
     tables: &Tables,
@@ -15,15 +15,13 @@ pub fn due_agrees(
 ) -> Result<bool, NoMemory> {
     let works = ws_plain::due(alloc, events, t, &[])?;
     let mut held = Held::empty(alloc);
-    for work in works.iter().take(3) {
-        let left = ws_plain::due(alloc, events, t, held.as_slice())?;
-        if !firsts_agree(tables, &left, &held, t) {
+    for (at, work) in works.iter().enumerate() {
+        if !firsts_agree(tables, &works[at..], &held, t) {
             return Ok(false);
         }
         held.push(copy(alloc, work)?)?;
     }
-    let left = ws_plain::due(alloc, events, t, held.as_slice())?;
-    Ok(firsts_agree(tables, &left, &held, t))
+    Ok(firsts_agree(tables, &[], &held, t))
 }
 
 fn copy(alloc: Global, work: &Work) -> Result<Work, NoMemory> {

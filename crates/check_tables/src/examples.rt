@@ -1,6 +1,6 @@
 // Histories worked out by hand.
 
-use crate::compared::agrees;
+use crate::compared::agree_later;
 use crate::made::{CB, CC, X, Y, asked, fetched, pinged, unfetched};
 use crate::tables::Tables;
 use std::alloc::Global;
@@ -12,14 +12,10 @@ pub fn stand_beside(alloc: Global, events: &[Event], later: &[u64]) -> Result<bo
     let mut tables = Tables::empty(alloc);
     for at in 0..events.len() {
         let event = &events[at];
-        if !tables.apply(event)? {
+        if !tables.apply(event)?
+            || !agree_later(alloc, &tables, &events[..at + 1], event.t, later)?
+        {
             return Ok(false);
-        }
-        for seconds in later {
-            let t = event.t.saturating_add(*seconds);
-            if !agrees(alloc, &tables, &events[..at + 1], t)? {
-                return Ok(false);
-            }
         }
     }
     Ok(true)

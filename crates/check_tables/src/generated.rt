@@ -2,14 +2,14 @@
 ghost use Rattle.std.specs.Prelude.{◌<◌};
 
 use crate::chance::Chance;
-use crate::compared::agrees;
+use crate::compared::{agree_later, is_first};
 use crate::made::{CALLBACKS, TOPICS, asked, bytes, fetched, pinged, same, unfetched};
+use crate::moment::agrees_at;
 use crate::tables::Tables;
 use std::alloc::Global;
 use std::test::Fail;
 use ws_model::{Event, Fate, How, Intent, Mode, NoMemory, What};
-
-const HISTORIES: usize = 100;
+use ws_plain::PairFate;
 
 const EVENTS: usize = 40;
 
@@ -156,9 +156,9 @@ impl History {
             _ => How::Missed(503),
         };
         match owed.get(at as usize) {
-            Some((ver, lease)) => Ok(Some(What::Pushed {
-                ver: *ver,
-                lease: *lease,
+            Some(pair) => Ok(Some(What::Pushed {
+                ver: pair.ver,
+                lease: pair.lease,
                 how,
             })),
             None => Ok(None),
@@ -199,25 +199,16 @@ fn picked<'a>(intents: &'a [Intent], chance: &mut Chance) -> Option<&'a Intent> 
     intents.get(chance.below(intents.len() as u64) as usize)
 }
 
-// The owed pairs as versions and leases, which both count from 1.
-fn owed(history: &History) -> Result<Vec<(u64, u64)>, NoMemory> {
+// The owed pairs, the oldest first.
+fn owed(history: &History) -> Result<Vec<PairFate>, NoMemory> {
     let mut owed = Vec::new(history.alloc);
-    for ver in 1..=history.versions {
-        for lease in 1..=history.intents {
-            let fate = ws_plain::fate(history.alloc, &history.events, ver, lease, history.t)?;
-            if matches!(fate, Some(Fate::Owed { .. })) {
-                owed.push((ver, lease))?;
-            }
+    let fates = ws_plain::all_fates(history.alloc, &history.events, history.t)?;
+    for pair in fates.iter().rev() {
+        if matches!(pair.fate, Fate::Owed { .. }) {
+            owed.push(*pair)?;
         }
     }
     Ok(owed)
-}
-
-// No pending intent of the same topic and callback has a lower number.
-fn is_first(pending: &[Intent], intent: &Intent) -> bool {
-    !pending.iter().any(|other| {
-        other.n < intent.n && other.topic == intent.topic && other.callback == intent.callback
-    })
 }
 
 fn has_version(events: &[Event], topic: &[u8]) -> bool {
@@ -232,39 +223,53 @@ fn has_version(events: &[Event], topic: &[u8]) -> bool {
 }
 
 // Each event is applied as it comes. The expired leases are taken out at one event in four, so that the
-// others find them held.
+// others find them held, and at one in four what isn't owed is forgotten.
 fn stands_beside(alloc: Global, seed: u64) -> Result<bool, NoMemory> {
     let mut history = History::new(alloc, seed);
     let mut tables = Tables::empty(alloc);
     for at in 0..EVENTS {
-        if history.grow()? {
-            if !apply_last(&mut tables, &history.events)? {
-                return Ok(false);
-            }
-            if history.chance.below(4) == 0 && !tables.expire(history.t) {
-                return Ok(false);
-            }
+        if history.grow()? && !apply_last(&mut tables, &mut history)? {
+            return Ok(false);
         }
-        if at % 3 == 2 && !agree_later(alloc, &tables, &history)? {
+        if at % 3 == 2 && !agree(alloc, &tables, &history)? {
             return Ok(false);
         }
     }
     Ok(true)
 }
 
-fn apply_last(tables: &mut Tables, events: &[Event]) -> Result<bool, NoMemory> {
-    match events.last() {
-        Some(event) => tables.apply(event),
-        None => Ok(false),
+fn apply_last(tables: &mut Tables, history: &mut History) -> Result<bool, NoMemory> {
+    let Some(event) = history.events.last() else {
+        return Ok(false);
+    };
+    if !tables.apply(event)? {
+        return Ok(false);
+    }
+    match history.chance.below(4) {
+        0 => Ok(tables.expire(history.t)),
+        1 => {
+            forget(tables, history)?;
+            Ok(true)
+        }
+        _ => Ok(true),
     }
 }
 
-fn agree_later(alloc: Global, tables: &Tables, history: &History) -> Result<bool, NoMemory> {
-    for seconds in [0, 7, 45, 240] {
-        let t = history.t.saturating_add(seconds);
-        if !agrees(alloc, tables, &history.events, t)? {
-            return Ok(false);
+// What is the latest of its topic stays, also where it isn't owed.
+fn forget(tables: &mut Tables, history: &History) -> Result<(), NoMemory> {
+    let owed = owed(history)?;
+    for ver in 1..=history.versions {
+        if !owed.iter().any(|pair| pair.ver == ver) {
+            tables.topics.forget(ver);
         }
+    }
+    Ok(())
+}
+
+fn agree(alloc: Global, tables: &Tables, history: &History) -> Result<bool, NoMemory> {
+    let events = &history.events;
+    if !agree_later(alloc, tables, events, history.t, &[0, 7, 45, 240])? {
+        return Ok(false);
     }
     agree_at_ends(alloc, tables, history)
 }
@@ -274,17 +279,68 @@ fn agree_at_ends(alloc: Global, tables: &Tables, history: &History) -> Result<bo
     let live = ws_plain::live(alloc, &history.events, history.t)?;
     for lease in &live {
         let end = lease.sent.saturating_add(u64::from(lease.intent.granted));
-        if !agrees(alloc, tables, &history.events, end)? {
+        if !agrees_at(alloc, tables, &history.events, end)? {
             return Ok(false);
         }
     }
     Ok(true)
 }
 
-#[test]
-fn histories_by_chance(rt: HostRuntime) -> Result<(), Fail> {
-    for seed in 0..HISTORIES {
-        assert!(rt; stands_beside(rt.alloc(), seed as u64)?, "seed {seed}");
+// The first of these seeds whose history the tables don't stand beside.
+fn first_apart(alloc: Global, from: u64, to: u64) -> Result<Option<u64>, NoMemory> {
+    for seed in from..to {
+        if !stands_beside(alloc, seed)? {
+            return Ok(Some(seed));
+        }
     }
+    Ok(None)
+}
+
+// So many in each test that it ends in time where it is built unproved and checked, too.
+#[test]
+fn histories_from_0(rt: HostRuntime) -> Result<(), Fail> {
+    assert_eq!(rt; first_apart(rt.alloc(), 0, 50)?, None);
+    Ok(())
+}
+
+#[test]
+fn histories_from_50(rt: HostRuntime) -> Result<(), Fail> {
+    assert_eq!(rt; first_apart(rt.alloc(), 50, 100)?, None);
+    Ok(())
+}
+
+#[test]
+fn histories_from_100(rt: HostRuntime) -> Result<(), Fail> {
+    assert_eq!(rt; first_apart(rt.alloc(), 100, 150)?, None);
+    Ok(())
+}
+
+#[test]
+fn histories_from_150(rt: HostRuntime) -> Result<(), Fail> {
+    assert_eq!(rt; first_apart(rt.alloc(), 150, 200)?, None);
+    Ok(())
+}
+
+#[test]
+fn histories_from_200(rt: HostRuntime) -> Result<(), Fail> {
+    assert_eq!(rt; first_apart(rt.alloc(), 200, 250)?, None);
+    Ok(())
+}
+
+#[test]
+fn histories_from_250(rt: HostRuntime) -> Result<(), Fail> {
+    assert_eq!(rt; first_apart(rt.alloc(), 250, 300)?, None);
+    Ok(())
+}
+
+#[test]
+fn histories_from_300(rt: HostRuntime) -> Result<(), Fail> {
+    assert_eq!(rt; first_apart(rt.alloc(), 300, 350)?, None);
+    Ok(())
+}
+
+#[test]
+fn histories_from_350(rt: HostRuntime) -> Result<(), Fail> {
+    assert_eq!(rt; first_apart(rt.alloc(), 350, 400)?, None);
     Ok(())
 }

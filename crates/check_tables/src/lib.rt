@@ -15,4 +15,6 @@ mod generated;
 #[cfg(test)]
 mod made;
 #[cfg(test)]
+mod moment;
+#[cfg(test)]
 mod tables;

@@ -5,3 +5,4 @@ pub mod Alike
 pub mod Tallies
 pub mod Kept
 pub mod Told
+pub mod PairFates

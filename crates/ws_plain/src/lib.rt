@@ -14,6 +14,7 @@ mod leases;
 mod moments;
 mod order;
 mod pair;
+mod pair_fates;
 mod pairs;
 mod past;
 mod ping;
@@ -25,6 +26,7 @@ pub use compaction::keep;
 pub use counts::account;
 pub use intents::{notices, pending};
 pub use leases::live;
+pub use pair_fates::{PairFate, all_fates};
 pub use pairs::fate;
 pub use works::due;
 

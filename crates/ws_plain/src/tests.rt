@@ -1,4 +1,4 @@
-use crate::{account, due, fate, keep, live, notices, pending};
+use crate::{account, all_fates, due, fate, keep, live, notices, pending};
 use std::alloc::Global;
 use std::test::Fail;
 use ws_model::{
@@ -92,6 +92,13 @@ fn renewal_carries_owed_push(rt: HostRuntime) -> Result<(), Fail> {
     let replaced = Some(Fate::Ended(Cause::Replaced));
     assert_eq!(rt; fate(alloc, &events, 1, 1, 2042)?, replaced);
     assert_eq!(rt; fate(alloc, &events, 2, 1, 2042)?, None);
+    let all = all_fates(alloc, &events, 2042)?;
+    assert_eq!(rt; all.len(), 2);
+    assert_eq!(rt; (all[0].ver, all[0].lease, Some(all[0].fate)), (1, 2, anew));
+    assert_eq!(rt;
+        (all[1].ver, all[1].lease, Some(all[1].fate)),
+        (1, 1, replaced)
+    );
     let push = [Work::Push { ver: 1, lease: 2 }];
     assert_eq!(rt; due(alloc, &events, 2042, &[])?.as_slice(), push.as_slice());
     assert_eq!(rt; due(alloc, &events, 2042, &push)?.len(), 0);

@@ -10,6 +10,7 @@ pub mod ExtentLemmas
 pub mod ReplyLemmas
 pub mod ReplyStageLemmas
 pub mod ReplyReaderLemmas
+pub mod ReplyTailLemmas
 pub mod ReplyPartLemmas
 pub mod FitLemmas
 pub mod OutcomeLemmas

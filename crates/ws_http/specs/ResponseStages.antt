@@ -1,5 +1,5 @@
 -- What a response reader keeps between two pieces, and what it stands for.
-use Rattle.std.specs.Prelude.{◌≡◌, ℕ, ◌+◌, ◌-◌, ◌≤◌, Bool, true, false, if◌then◌else◌, nat_lt, nat_le, List, [], ◌++◌, length, take, drop, Option, Some, ⊤}
+use Rattle.std.specs.Prelude.{◌≡◌, ℕ, ◌+◌, ◌-◌, ◌≤◌, Bool, true, false, if◌then◌else◌, nat_lt, nat_le, List, [], ◌++◌, length, take, drop, Option, Some, None, MatchBool, ⊤}
 use Rattle.httparse.specs.Grammar.{ResponseHead, print_response, status_code, ReadsResponse}
 use Rattle.ws_model.specs.Legal.{body_limit}
 use Rattle.ws_http.specs.declared.fed.BadWhy.TheVariants as why
@@ -224,13 +224,49 @@ pub record ReplyReading : Type 0 where
 abbrev pub fresh_reply : Need → ReplyReading
 fresh_reply need = record { need = need; bytes = []; content = []; stage = stage.Head 0 }
 
+-- The bytes that came are kept as two lists. Where everything is asked for, a body that isn't chunked stands
+-- apart from the heads, so that it can be given away as it is; else all is in the first list.
+abbrev pub Split : Need → ℕ → List ℕ → List ℕ → Type 0
+Split need start raw tail = MatchBool (is_full need) (length raw ≡ start) (tail ≡ [])
+
+-- how the bytes that came are kept at a stage
+abbrev pub IsSplit : Need → List ℕ → List ℕ → ReplyStage → Type 0
+IsSplit need raw tail (stage.Head at) = tail ≡ []
+IsSplit need raw tail (stage.Fixed f total) = Split need f.start raw tail
+IsSplit need raw tail (stage.Lasting f) = Split need f.start raw tail
+IsSplit need raw tail (stage.Chunked f place size) = tail ≡ []
+IsSplit need raw tail (stage.Whole f total chunked) = MatchBool chunked (tail ≡ []) (Split need f.start raw tail)
+IsSplit need raw tail (stage.Bad reason) = ⊤
+IsSplit need raw tail stage.NoMemory = ⊤
+
+-- whether the message goes on with a body that stands apart
+abbrev pub is_apart : Need → ReplyStage → Bool
+is_apart need (stage.Head at) = false
+is_apart need (stage.Fixed f total) = is_full need
+is_apart need (stage.Lasting f) = is_full need
+is_apart need (stage.Chunked f place size) = false
+is_apart need (stage.Whole f total chunked) = false
+is_apart need (stage.Bad reason) = false
+is_apart need stage.NoMemory = false
+
+-- where a body that stands apart begins, the whole one too
+abbrev pub apart_from : Need → ReplyStage → Option ℕ
+apart_from need (stage.Head at) = None
+apart_from need (stage.Fixed f total) = if is_full need then Some f.start else None
+apart_from need (stage.Lasting f) = if is_full need then Some f.start else None
+apart_from need (stage.Chunked f place size) = None
+apart_from need (stage.Whole f total chunked) = if chunked then None else (if is_full need then Some f.start else None)
+apart_from need (stage.Bad reason) = None
+apart_from need stage.NoMemory = None
+
 -- what a reader keeps is so, and there is room for all that may come, but where everything is asked for
-pub record IsReplyReader (need : Need) (bytes content : List ℕ) (s : ReplyStage) (raw_capacity body_capacity : ℕ) : Type 0 where
-  pub short : length bytes ≤ room_of need
+pub record IsReplyReader (need : Need) (raw tail content : List ℕ) (s : ReplyStage) (raw_capacity body_capacity : ℕ) : Type 0 where
+  pub short : length (raw ++ tail) ≤ room_of need
   pub kept : is_full need ≡ false → room_of need ≤ raw_capacity
   pub held : is_full need ≡ false → 41 ≤ body_capacity
-  pub ready : Ready need bytes content s
-  pub small : Small bytes content s
+  pub ready : Ready need (raw ++ tail) content s
+  pub small : Small (raw ++ tail) content s
+  pub apart : IsSplit need raw tail s
 
 -- The reader was fed these bytes, with the connection's end behind them or not, and stands for the verdict
 -- on them. It keeps all of them until the verdict is final.

@@ -12,6 +12,7 @@ mod reply;
 mod reply_data;
 mod reply_head;
 mod reply_stage;
+mod reply_tail;
 mod request;
 mod response;
 mod stage;

@@ -69,23 +69,23 @@ pub fn is_status(need: Need) -> bool
     }
 }
 
-// A body of a declared length.
-fn read_fixed(raw: &[u8], head: FinalHead, total: usize) -> ReplyStage
-    ensures { result ≡ (if nat_le total (length raw.now) then stage.Whole head total false else stage.Fixed head total) }
+/// A body of a declared length, of which so many bytes came with the heads.
+pub fn read_fixed(came: usize, head: FinalHead, total: usize) -> ReplyStage
+    ensures { result ≡ (if nat_le total came then stage.Whole head total false else stage.Fixed head total) }
 {
-    if raw.len() >= total {
+    if came >= total {
         ReplyStage::Whole(head, total, false)
     } else {
         ReplyStage::Fixed(head, total)
     }
 }
 
-// A body up to the end of the connection.
-fn read_lasting(raw: &[u8], head: FinalHead) -> ReplyStage
-    requires { head.start ≤ length raw.now }
-    ensures { result ≡ (if nat_lt body_limit (length raw.now - head.start) then stage.Bad why.TooLong else stage.Lasting head) }
+/// A body up to the end of the connection, of which so many bytes came with the heads.
+pub fn read_lasting(came: usize, head: FinalHead) -> ReplyStage
+    requires { head.start ≤ came }
+    ensures { result ≡ (if nat_lt body_limit (came - head.start) then stage.Bad why.TooLong else stage.Lasting head) }
 {
-    if raw.len() - head.start > BODY_LIMIT {
+    if came - head.start > BODY_LIMIT {
         ReplyStage::Bad(BadWhy::TooLong)
     } else {
         ReplyStage::Lasting(head)
@@ -156,14 +156,15 @@ fn read_sized(
     ensures closes { over ≡ true → is_last result ≡ true }
     ensures capacity { vec_capacity body.old ≤ vec_capacity body.new }
 {
+    let came = raw.len();
     match extent {
         Extent::Fixed(length) => {
             if length > BODY_LIMIT as u64 {
                 return ReplyStage::Bad(BadWhy::TooLong);
             }
-            read_fixed(raw, head, head.start + length as usize)
+            read_fixed(came, head, head.start + length as usize)
         }
-        Extent::Lasting => read_lasting(raw, head),
+        Extent::Lasting => read_lasting(came, head),
         Extent::Chunked => read_chunked(raw, body, need, over, head, 0, 0),
     }
 }
@@ -241,10 +242,11 @@ pub fn read_reply(
     ensures closes { over ≡ true → is_last result ≡ true }
     ensures capacity { vec_capacity body.old ≤ vec_capacity body.new }
 {
+    let came = raw.len();
     match from {
         ReplyStage::Head(at) => read_front(raw, body, need, over, at),
-        ReplyStage::Fixed(head, total) => read_fixed(raw, head, total),
-        ReplyStage::Lasting(head) => read_lasting(raw, head),
+        ReplyStage::Fixed(head, total) => read_fixed(came, head, total),
+        ReplyStage::Lasting(head) => read_lasting(came, head),
         ReplyStage::Chunked(head, place, size) => {
             read_chunked(raw, body, need, over, head, place, size)
         }

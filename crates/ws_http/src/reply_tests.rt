@@ -460,3 +460,49 @@ fn status_need_ignores_body(rt: HostRuntime) -> Result<(), Fail> {
     }
     Ok(())
 }
+
+// Feeds a response in pieces of a size, then the connection's end, and gives its reply.
+fn reply_in_pieces(
+    rt: &(impl Abort + AllocGlobal),
+    bytes: &[u8],
+    size: usize,
+) -> Result<Option<Reply>, Fail> {
+    let mut reader = ResponseReader::made(rt.alloc(), Need::Full)?;
+    for piece in bytes.chunks(size.max(1)) {
+        if let Fed::Whole { used: _ } = reader.feed(piece, false) {
+            let reply = reader.into_reply()?;
+            return Ok(Some(reply));
+        }
+    }
+    match reader.feed(b"", true) {
+        Fed::Whole { used: _ } => {
+            let reply = reader.into_reply()?;
+            Ok(Some(reply))
+        }
+        _ => Ok(None),
+    }
+}
+
+// A whole body is the one that was sent, in whatever pieces: of declared length, with more behind it, up to
+// the connection's end, and chunked.
+#[test]
+fn whole_bodies_in_any_pieces(rt: HostRuntime) -> Result<(), Fail> {
+    let table: [&[u8]; 4] = [
+        b"HTTP/1.1 200 OK\r\nContent-Length: 9\r\n\r\nnine-byte",
+        b"HTTP/1.1 200 OK\r\nContent-Length: 9\r\n\r\nnine-bytes and more",
+        b"HTTP/1.1 100 Continue\r\n\r\nHTTP/1.1 200 OK\r\n\r\nnine-byte",
+        b"HTTP/1.1 200 OK\r\nTransfer-Encoding: chunked\r\n\r\n4\r\nnine\r\n5\r\n-byte\r\n0\r\n\r\n",
+    ];
+    for text in table.iter() {
+        for size in 1..80 {
+            let reply = reply_in_pieces(&rt, text, size)?.expect(&rt, "a whole response");
+            assert_eq!(rt; reply.code, 200);
+            assert_eq!(rt;
+                reply.body.as_slice(),
+                b"nine-byte".as_slice(),
+                "pieces of {size}"
+            );
+        }
+    }
+    Ok(())
+}

@@ -1,18 +1,19 @@
 // The reader of a response that comes in any pieces.
-ghost use Rattle.std.specs.Prelude.{◌≡◌, ◌≤◌, IfOk, IsOk, ℕ, List, [], Bool, true, false, length};
-ghost use Rattle.ws_http.specs.ResponseFields.{kept_of};
+ghost use Rattle.std.specs.Prelude.{◌≡◌, ◌≤◌, ◌++◌, IfOk, IsOk, ℕ, List, [], Bool, true, false, length};
 ghost use Rattle.ws_model.specs.declared.work.Outcome.TheVariants as outcome;
 ghost use Rattle.ws_model.specs.Fit.{is_fit_reply};
 ghost use Rattle.ws_http.specs.Responses.{Got, fault_outcome};
-ghost use Rattle.ws_http.specs.ResponseStages.{is_status, is_whole, is_last, kept_content};
+ghost use Rattle.ws_http.specs.declared.reply_stage.ReplyStage.TheVariants as stage;
+ghost use Rattle.ws_http.specs.ResponseStages.{IsSplit, is_status, is_whole, is_last, kept_content};
 
 use crate::head::front_of;
 use crate::reply::build;
 use crate::reply_data::{SHORT, first};
 use crate::reply_head::FinalHead;
 use crate::reply_stage::{
-    ReplyStage, closed, is_full, is_status, reply_again, reply_told, room_of, take_piece,
+    ReplyStage, closed, is_full, is_status, reply_again, reply_told, room_of,
 };
+use crate::reply_tail::{count, take_next};
 use crate::{Fed, Need};
 use std::alloc::Global;
 use std::marker::Model;
@@ -26,7 +27,11 @@ use ws_model::{Bytes, NoMemory, Reply};
 pub struct ResponseReader {
     alloc: Global,
     need: Need,
+    /// The bytes that came, up to a body that is kept apart.
     raw: Vec<u8>,
+    /// The bytes behind the heads, where the whole of a body is asked for that isn't chunked.
+    tail: Vec<u8>,
+    /// The data of a chunked body.
     body: Vec<u8>,
     stage: ReplyStage,
 }
@@ -34,39 +39,32 @@ pub struct ResponseReader {
 impl Model for ResponseReader {
     ghost use Rattle.ws_http.specs.ResponseStages.{ReplyReading};
     ghost use Rattle.ws_http.specs.ResponseStages.{IsReplyReader};
+    ghost use Rattle.std.specs.Prelude.{◌++◌};
     ghost use Rattle.std.specs.Vec.{vec_capacity};
 
     ghost Value = { ReplyReading };
 
-    ghost view = { λ r. record { need = r.need; bytes = r.raw.items; content = r.body.items; stage = r.stage } };
+    ghost view = { λ r. record { need = r.need; bytes = r.raw.items ++ r.tail.items; content = r.body.items; stage = r.stage } };
 
-    ghost invariant = { λ r. IsReplyReader r.need r.raw.items r.body.items r.stage (vec_capacity r.raw) (vec_capacity r.body) };
+    ghost invariant = { λ r. IsReplyReader r.need r.raw.items r.tail.items r.body.items r.stage
+        (vec_capacity r.raw) (vec_capacity r.body) };
 }
 
-// The part of a body of declared or of open length that is kept.
-fn kept_front(need: Need, content: &[u8]) -> &[u8]
-    ensures { result.now ≡ kept_of need content.now }
-{
-    match need {
-        Need::Status => first(content, 0),
-        Need::Short => first(content, SHORT),
-        Need::Full => content,
-    }
-}
-
-// The part of the body that is kept.
+// The part of the body that is kept. A whole body is given away as it is kept; of a short one the first bytes are copied.
 fn content(
     alloc: Global,
     need: Need,
     raw: &[u8],
+    mut tail: Vec<u8>,
     body: Vec<u8>,
     head: FinalHead,
     total: usize,
     chunked: bool,
 ) -> Result<Bytes, NoMemory>
     requires ordered { head.start ≤ total }
-    requires inside { chunked ≡ false → total ≤ length raw.now }
-    ensures value { IfOk result (λ b. b ≡ kept_content need raw.now body.items head.start total chunked) }
+    requires inside { chunked ≡ false → total ≤ length (raw.now ++ tail.items) }
+    requires split { IsSplit need raw.now tail.items (stage.Whole head total chunked) }
+    ensures value { IfOk result (λ b. b ≡ kept_content need (raw.now ++ tail.items) body.items head.start total chunked) }
     ensures status { is_status need ≡ true → IsOk result }
 {
     if is_status(need) {
@@ -75,7 +73,11 @@ fn content(
     if chunked {
         return Ok(Bytes::from_vec(body));
     }
-    Bytes::copy(alloc, kept_front(need, &raw[head.start..total]))
+    if is_full(need) {
+        tail.truncate(total - head.start);
+        return Ok(Bytes::from_vec(tail));
+    }
+    Bytes::copy(alloc, first(&raw[head.start..total], SHORT))
 }
 
 impl ResponseReader {
@@ -100,6 +102,7 @@ impl ResponseReader {
             alloc,
             need,
             raw,
+            tail: Vec::new(alloc),
             body,
             stage: ReplyStage::Head(0),
         })
@@ -117,10 +120,17 @@ impl ResponseReader {
         if let Some(answer) = reply_again(self.stage) {
             return answer;
         }
-        let before = self.raw.len();
+        let before = count(&self.raw, &self.tail);
         let old = self.stage;
-        let new = take_piece(&mut self.raw, &mut self.body, self.need, piece, old);
-        self.stage = closed(end, self.raw.len(), new);
+        let new = take_next(
+            &mut self.raw,
+            &mut self.tail,
+            &mut self.body,
+            self.need,
+            piece,
+            old,
+        );
+        self.stage = closed(end, count(&self.raw, &self.tail), new);
         reply_told(before, old, self.stage)
     }
 
@@ -135,12 +145,13 @@ impl ResponseReader {
             alloc,
             need,
             raw,
+            tail,
             body,
             stage,
         } = self;
         match stage {
             ReplyStage::Whole(head, total, chunked) => {
-                let kept = content(alloc, need, &raw, body, head, total, chunked)?;
+                let kept = content(alloc, need, &raw, tail, body, head, total, chunked)?;
                 let (_, rest) = front_of(&raw).split_at(head.at);
                 let reply = build(alloc, need, rest, kept)?;
                 Ok(reply)

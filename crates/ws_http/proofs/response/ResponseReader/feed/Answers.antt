@@ -1,25 +1,27 @@
-use Rattle.std.proofs.Common.{◌≡◌, ℕ, false, length, sym, ap, ◌∙◌, subst, arith}
+use Rattle.std.proofs.Common.{◌≡◌, ℕ, ◌++◌, false, length, sym, ap, ◌∙◌, subst, arith}
 use Rattle.ws_http.specs.declared.reply_stage.ReplyStage.{ReplyStage}
-use Rattle.ws_http.specs.ResponseStages.{Ready, Small, ReplyReading, FeedsReply, is_last, said, stage_closed}
+use Rattle.ws_http.specs.ResponseStages.{Ready, Small, IsSplit, ReplyReading, FeedsReply, is_last, said, stage_closed}
 use Rattle.ws_http.proofs.ReplyReaderLemmas.{reply_feeds, closed_ready, closed_small}
+use Rattle.ws_http.proofs.ReplyTailLemmas.{closed_split}
 use Rattle.ws_http.proofs.response.ResponseReader.feed.Goals as goal
 
 pub returns-clause-feeds : goal.returns-clause-feeds
 returns-clause-feeds c =
     let n = c.self.inside.need in
     let from = c.self.inside.stage in
-    let s = c.take_piece-new.result in
-    let p = c.take_piece-new.ensures in
-    let raw = c.take_piece-new.new.raw.items in
-    let body = c.take_piece-new.new.body.items in
+    let s = c.take_next-new.result in
+    let p = c.take_next-new.ensures in
+    let was = c.self.inside.raw.items ++ c.self.inside.tail.items in
+    let raw = c.take_next-new.new.raw.items ++ c.take_next-new.new.tail.items in
+    let body = c.take_next-new.new.body.items in
     let live : is_last from ≡ false = rw c.in_default.is at c.reply_again.ensures in
-    let before : c.len-before.result ≡ length c.self.inside.raw.items = omega (arith, c.self.inside.raw.ok.0, c.len-before.ensures) in
-    let came : c.len.result ≡ length raw = omega (arith, c.take_piece-new.new.raw.ok.0, c.len.ensures) in
+    let before : c.count-before.result ≡ length was = c.count-before.ensures ∙ (λ i. length (c.deref.ensures.value i ++ c.deref-2.ensures.value i)) in
+    let came : c.count.result ≡ length raw = c.count.ensures ∙ (λ i. length (c.deref-3.ensures.value i ++ c.deref-4.ensures.value i)) in
     let now = c.closed-self-inside.ensures ∙ ap (λ (k : ℕ). stage_closed c.args.end k s) came in
     let told = c.reply_told.ensures.value ∙ ap (λ (k : ℕ). said k from c.closed-self-inside.result) before
-    ∙ ap (λ (x : ReplyStage). said (length c.self.inside.raw.items) from x) now in
-    let old : ReplyReading = record { need = n; bytes = c.self.inside.raw.items; content = c.self.inside.body.items; stage = from } in
-    let feeds = reply_feeds n c.self.inside.raw.items c.self.inside.body.items raw body c.args.piece.now from s c.args.end c.reply_told.result live p.took
+    ∙ ap (λ (x : ReplyStage). said (length was) from x) now in
+    let old : ReplyReading = record { need = n; bytes = was; content = c.self.inside.body.items; stage = from } in
+    let feeds = reply_feeds n was c.self.inside.body.items raw body c.args.piece.now from s c.args.end c.reply_told.result live p.took
     p.judged p.ready p.closes told in
     subst (λ (r : ReplyReading). FeedsReply r c.args.piece.now c.args.end (record { need = n; bytes = raw; content = body; stage = c.closed-self-inside.result })
     c.reply_told.result) c.self.view_is
@@ -29,11 +31,13 @@ returns-clause-feeds c =
 pub invariant_of-self : goal.invariant_of-self
 invariant_of-self c =
     let n = c.self.inside.need in
-    let s = c.take_piece-new.result in
-    let p = c.take_piece-new.ensures in
-    let raw = c.take_piece-new.new.raw.items in
-    let body = c.take_piece-new.new.body.items in
-    let came : c.len.result ≡ length raw = omega (arith, c.take_piece-new.new.raw.ok.0, c.len.ensures) in
+    let s = c.take_next-new.result in
+    let p = c.take_next-new.ensures in
+    let heads = c.take_next-new.new.raw.items in
+    let tail = c.take_next-new.new.tail.items in
+    let raw = heads ++ tail in
+    let body = c.take_next-new.new.body.items in
+    let came : c.count.result ≡ length raw = c.count.ensures ∙ (λ i. length (c.deref-3.ensures.value i ++ c.deref-4.ensures.value i)) in
     let now = c.closed-self-inside.ensures ∙ ap (λ (k : ℕ). stage_closed c.args.end k s) came in
     record {
       short = p.short;
@@ -41,4 +45,5 @@ invariant_of-self c =
       held = λ e. let k = c.self.invariant.held e in omega (arith, k, p.body_capacity);
       ready = subst (λ (x : ReplyStage). Ready n raw body x) (sym now) (closed_ready n raw body c.args.end s p.ready);
       small = subst (λ (x : ReplyStage). Small raw body x) (sym now) (closed_small raw body c.args.end s p.small);
+      apart = subst (λ (x : ReplyStage). IsSplit n heads tail x) (sym now) (closed_split n heads tail c.args.end (length raw) s p.split);
     }

@@ -1,8 +1,7 @@
 // Histories worked out by hand, on the core.
 
 use crate::hub::{Hub, after};
-use crate::made::{CB, CC, X, asked, bytes, fetched, happen, pinged, unfetched};
-use crate::outcomes::reply;
+use crate::made::{CB, CC, X, asked, bytes, fetched, happen, pinged, reply, unfetched};
 use std::alloc::Global;
 use std::process::Abort;
 use std::test::Fail;

@@ -1,11 +1,12 @@
 // The core, and beside it tables that go on with the same events: outcomes are judged by tables.
 ghost use Rattle.std.specs.Prelude.{◌<◌, ◌^◌, OnOk};
+ghost use Rattle.ws_core.specs.Stands.{CanFollow, GoesOn};
 ghost use Rattle.check_core.specs.Both.{BothStand};
 
 use std::alloc::Global;
 use ws_core::Core;
 use ws_core_tables::Tables;
-use ws_model::{Event, NoMemory, Outcome, Settled, Work};
+use ws_model::{Event, NoMemory, Outcome, Settled, What, Work};
 use ws_verdict::settle;
 
 /// Times in seconds are below this.
@@ -18,7 +19,7 @@ pub const CHALLENGE: &[u8; 40] = b"0000000000000000000000000000000000000001";
 pub struct Hub {
     alloc: Global,
     pub core: Core,
-    tables: Tables,
+    pub tables: Tables,
 }
 
 impl Hub {
@@ -40,7 +41,7 @@ impl Hub {
         if !self.core.accepts(event)? {
             return Ok(false);
         }
-        self.core.apply(event)?;
+        go_on(&mut self.core, event)?;
         self.tables.apply(event)?;
         Ok(true)
     }
@@ -83,6 +84,20 @@ impl Hub {
             outcome,
         )
     }
+}
+
+// At even serials the end of a push is applied by the call that takes no memory.
+fn go_on(core: &mut Core, event: &Event) -> Result<(), NoMemory>
+    requires { CanFollow core.old event.now }
+    ensures { OnOk result (GoesOn event.now core.old core.new) }
+{
+    if event.serial % 2 == 0 {
+        if let What::Pushed { ver, lease, how } = &event.what {
+            core.apply_pushed(event.serial, event.t, *ver, *lease, *how);
+            return Ok(());
+        }
+    }
+    core.apply(event)
 }
 
 /// The hub after these events, or None where one of them isn't accepted.

@@ -1,7 +1,8 @@
 //! The core beside the plain program of the definitions, on worked and on generated histories, and what
-//! outcomes make of what it holds: tests alone.
+//! outcomes make of what it holds: tests, and what they are made with.
 #![tactic(auto)]
 
+mod asks;
 #[cfg(test)]
 mod chance;
 #[cfg(test)]
@@ -12,13 +13,11 @@ mod examples;
 mod generated;
 #[cfg(test)]
 mod history;
-#[cfg(test)]
 mod hub;
 #[cfg(test)]
 mod legality;
 #[cfg(test)]
 mod limits;
-#[cfg(test)]
 mod made;
 #[cfg(test)]
 mod outcomes;
@@ -30,3 +29,9 @@ mod requests;
 mod soundness;
 #[cfg(test)]
 mod verdicts;
+
+pub use asks::{policy, publication, subscription, unsubscription};
+pub use hub::{CHALLENGE, Hub, TIME_LIMIT, after};
+pub use made::{
+    CALLBACKS, CB, CC, TOPICS, X, Y, asked, bytes, fetched, happen, pinged, reply, same, unfetched,
+};

@@ -1,7 +1,7 @@
 // Events as the tests make them.
 
 use std::alloc::Global;
-use ws_model::{Alg, Bytes, Event, Intent, Mode, NoMemory, Version, What};
+use ws_model::{Alg, Bytes, Event, Intent, Mode, NoMemory, Outcome, Reply, Version, What};
 
 pub const X: &str = "http://pub.example/x";
 
@@ -76,4 +76,15 @@ pub fn unfetched(alloc: Global, topic: &str, upto: u64) -> Result<What, NoMemory
         upto,
         why: 5,
     })
+}
+
+/// A reply with a status and a body alone.
+pub fn reply(alloc: Global, code: u16, body: &[u8]) -> Result<Outcome, NoMemory> {
+    Ok(Outcome::Reply(Reply {
+        code,
+        media: bytes(alloc, "text/plain")?,
+        coding: bytes(alloc, "")?,
+        links: bytes(alloc, "")?,
+        body: Bytes::copy(alloc, body)?,
+    }))
 }

@@ -1,20 +1,9 @@
 // What the outcomes of exchanges make of what the tables hold.
 
 use crate::hub::{CHALLENGE, Hub, TIME_LIMIT};
-use crate::made::bytes;
+use crate::made::reply;
 use std::alloc::Global;
-use ws_model::{Bytes, Event, NoMemory, Outcome, Reply, Settled, What, Work};
-
-/// A reply with a status and a body alone.
-pub fn reply(alloc: Global, code: u16, body: &[u8]) -> Result<Outcome, NoMemory> {
-    Ok(Outcome::Reply(Reply {
-        code,
-        media: bytes(alloc, "text/plain")?,
-        coding: bytes(alloc, "")?,
-        links: bytes(alloc, "")?,
-        body: Bytes::copy(alloc, body)?,
-    }))
-}
+use ws_model::{Event, NoMemory, Outcome, Settled, Work};
 
 fn some_outcomes(alloc: Global) -> Result<Vec<Outcome>, NoMemory> {
     let mut outcomes = Vec::new(alloc);

@@ -1,8 +1,7 @@
 // What outcomes make, as tables worked out by hand.
 
 use crate::hub::{CHALLENGE, Hub, after};
-use crate::made::{CB, X, asked, bytes, fetched, happen, pinged, same};
-use crate::outcomes::reply;
+use crate::made::{CB, X, asked, bytes, fetched, happen, pinged, reply, same};
 use std::alloc::Global;
 use std::test::Fail;
 use ws_model::{Cause, Event, Fate, How, NoMemory, Outcome, Reply, Settled, Version, What, Work};

@@ -59,14 +59,18 @@ fn agrees(
     }
 }
 
-// What is told without a moment.
-fn holds_agree(alloc: Global, core: &Core, history: &History) -> Result<bool, NoMemory> {
-    let present = Present::of(alloc, &history.events, history.t)?;
+// What is told without a moment, as it is at the time of the last event.
+fn holds_agree(alloc: Global, core: &Core, events: &[Event]) -> Result<bool, NoMemory> {
+    let t = match events.last() {
+        Some(event) => event.t,
+        None => 0,
+    };
+    let present = Present::of(alloc, events, t)?;
     let standings = standings(alloc, &present)?;
     Ok(
         intents_agree(core, &present)
             && versions_agree(core, &present, &standings)
-            && numbers_agree(core, &history.events),
+            && numbers_agree(core, events),
     )
 }
 
@@ -119,7 +123,7 @@ fn stands_beside(alloc: Global, seed: u64, asking: Asking) -> Result<bool, NoMem
             }
         }
     }
-    holds_agree(alloc, &hub.core, &history)
+    holds_agree(alloc, &hub.core, &history.events)
 }
 
 // The first history of these that doesn't agree.

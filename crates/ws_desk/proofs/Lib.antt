@@ -1,0 +1,5 @@
+pub mod Later
+pub mod Committed
+pub mod Quiet
+pub mod Does
+pub mod Serials

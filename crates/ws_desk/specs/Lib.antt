@@ -1,0 +1,4 @@
+pub mod Holds
+pub mod Once
+pub mod Seen
+pub mod Commits

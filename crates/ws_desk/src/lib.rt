@@ -1,0 +1,10 @@
+//! The desk: the owner of a hub's core, which answers the calls of those who reach the hub.
+#![tactic(auto)]
+
+mod calls;
+mod committing;
+mod owner;
+#[cfg(test)]
+mod tests;
+
+pub use owner::Desk;

@@ -163,6 +163,11 @@ fn more_works_by_chance(rt: HostRuntime) -> Result<(), Fail> {
 #[test]
 fn requests_by_chance(rt: HostRuntime) -> Result<(), Fail> {
     assert_eq!(rt; first_apart(rt.alloc(), 0, Asking::Requests)?, None);
+    Ok(())
+}
+
+#[test]
+fn more_requests_by_chance(rt: HostRuntime) -> Result<(), Fail> {
     assert_eq!(rt; first_apart(rt.alloc(), HISTORIES, Asking::Requests)?, None);
     Ok(())
 }
@@ -170,6 +175,11 @@ fn requests_by_chance(rt: HostRuntime) -> Result<(), Fail> {
 #[test]
 fn outcomes_by_chance(rt: HostRuntime) -> Result<(), Fail> {
     assert_eq!(rt; first_apart(rt.alloc(), 0, Asking::Outcomes)?, None);
+    Ok(())
+}
+
+#[test]
+fn more_outcomes_by_chance(rt: HostRuntime) -> Result<(), Fail> {
     assert_eq!(rt; first_apart(rt.alloc(), HISTORIES, Asking::Outcomes)?, None);
     Ok(())
 }

@@ -2,7 +2,7 @@
 
 use crate::asks::{policy, publication, subscription, unsubscription};
 use crate::hub::TIME_LIMIT;
-use crate::made::{CALLBACKS, TOPICS, X, Y, asked, bytes, pinged};
+use crate::made::{CALLBACKS, CB, CC, TOPICS, X, Y, asked, bytes, pinged};
 use crate::present::Present;
 use std::alloc::Global;
 use ws_core::Core;
@@ -97,12 +97,14 @@ fn revocation_agrees(
 pub fn requests_agree(alloc: Global, core: &Core, present: &Present<'_>) -> Result<bool, NoMemory> {
     for topic in TOPICS {
         for callback in CALLBACKS {
-            let told = subscriptions_agree(alloc, core, present, topic, callback)?
-                && revocation_agrees(alloc, core, present, topic, callback)?;
-            if !told {
+            if !revocation_agrees(alloc, core, present, topic, callback)? {
                 return Ok(false);
             }
         }
     }
-    publications_agree(alloc, core, present)
+    Ok(
+        subscriptions_agree(alloc, core, present, X, CB)?
+            && subscriptions_agree(alloc, core, present, Y, CC)?
+            && publications_agree(alloc, core, present)?,
+    )
 }

@@ -7,6 +7,7 @@ ghost use Rattle.check_front.specs.Settled.{settings_of};
 use crate::memoryless::Memoryless;
 use std::alloc::Global;
 use std::test::Fail;
+use ws_desk::Desk;
 use ws_front::{Served, serve_connection};
 use ws_link::{MemSink, MemSource, Source};
 use ws_model::{Alg, Bytes, Key, Keys, NoMemory, Policy, Settings};
@@ -20,6 +21,9 @@ const PIECES: [u32; 3] = [0, 1, 7];
 const ROOM: usize = 400;
 
 const INTERIM: &[u8] = b"HTTP/1.1 100 Continue\r\n\r\n";
+
+const ACCEPTED: &[u8] =
+    b"HTTP/1.1 202 Accepted\r\nContent-Type: text/plain; charset=utf-8\r\nContent-Length: 9\r\nConnection: close\r\n\r\naccepted\n";
 
 const WANTING: &[u8] =
     b"HTTP/1.1 507 Insufficient Storage\r\nContent-Type: text/plain; charset=utf-8\r\nContent-Length: 10\r\nConnection: close\r\n\r\nno memory\n";
@@ -117,8 +121,17 @@ fn serve<P: Port>(
     })
 }
 
+// A connection to a hub to which nothing has happened, and how many intents are pending then.
+fn served(alloc: Global, bytes: &[u8], piece: u32) -> Result<(Ending, u64), Fail> {
+    let hub = topic(alloc, b"http://127.0.0.1:8080/", false)?;
+    let ours = settings(alloc, &hub)?;
+    let mut desk = Desk::start(alloc, settings(alloc, &hub)?);
+    let ending = serve(alloc, &mut desk, &ours, bytes, piece)?;
+    Ok((ending, desk.account(1_000).pending))
+}
+
 // A connection to a hub without memory.
-fn served(alloc: Global, bytes: &[u8], piece: u32) -> Result<Ending, Fail> {
+fn served_without_memory(alloc: Global, bytes: &[u8], piece: u32) -> Result<Ending, Fail> {
     let hub = topic(alloc, b"http://127.0.0.1:8080/", false)?;
     let ours = settings(alloc, &hub)?;
     let mut port = Memoryless::new(settings(alloc, &hub)?);
@@ -149,15 +162,36 @@ fn http_request_refusals(rt: HostRuntime) -> Result<(), Fail> {
     for (head, code, answer) in REFUSALS {
         let bytes = joined(alloc, &[head, BEHIND])?;
         for piece in PIECES {
-            let ending = served(alloc, &bytes, piece)?;
+            let (ending, pending) = served(alloc, &bytes, piece)?;
             assert_eq!(rt; ending.served, Served::Answered { code });
             assert_eq!(rt; ending.written.as_slice(), answer);
-            assert_eq!(rt;
-                ending.left.as_slice(),
-                unread(&bytes, head.len(), piece),
-                "{code} {piece}"
-            );
+            let left = unread(&bytes, head.len(), piece);
+            assert_eq!(rt; ending.left.as_slice(), left, "{code} {piece}");
+            assert_eq!(rt; pending, 0);
         }
+    }
+    Ok(())
+}
+
+// The interim line and the answer are 138 bytes.
+#[test]
+fn curl_request_with_expect(rt: HostRuntime) -> Result<(), Fail> {
+    let alloc = rt.alloc();
+    let bytes = joined(alloc, &[CURL_HEAD, CURL_BODY, BEHIND])?;
+    let answer = joined(alloc, &[INTERIM, ACCEPTED])?;
+    assert_eq!(rt; answer.len(), 138);
+    let wanted = CURL_HEAD.len() + CURL_BODY.len();
+    assert_eq!(rt; wanted, 278);
+    for piece in PIECES {
+        let (ending, pending) = served(alloc, &bytes, piece)?;
+        assert_eq!(rt; ending.served, Served::Answered { code: 202 });
+        assert_eq!(rt; ending.written.as_slice(), answer.as_slice());
+        assert_eq!(rt;
+            ending.left.as_slice(),
+            unread(&bytes, wanted, piece),
+            "{piece}"
+        );
+        assert_eq!(rt; pending, 1);
     }
     Ok(())
 }
@@ -165,24 +199,26 @@ fn http_request_refusals(rt: HostRuntime) -> Result<(), Fail> {
 #[test]
 fn empty_connection(rt: HostRuntime) -> Result<(), Fail> {
     for piece in PIECES {
-        let ending = served(rt.alloc(), b"", piece)?;
+        let (ending, pending) = served(rt.alloc(), b"", piece)?;
         assert_eq!(rt; ending.served, Served::Empty);
         assert!(rt; ending.written.is_empty());
+        assert_eq!(rt; pending, 0);
     }
     Ok(())
 }
 
-// Cut behind the head, and at each byte of the body: only the interim line is written.
+// Cut behind the head, and at each byte of the body: only the interim line is written, and nothing is held.
 #[test]
 fn connection_cut_after_head(rt: HostRuntime) -> Result<(), Fail> {
     let alloc = rt.alloc();
     let bytes = joined(alloc, &[CURL_HEAD, CURL_BODY])?;
     for cut in CURL_HEAD.len()..bytes.len() {
         for piece in PIECES {
-            let ending = served(alloc, bytes.get(..cut).unwrap_or_default(), piece)?;
+            let (ending, pending) = served(alloc, bytes.get(..cut).unwrap_or_default(), piece)?;
             assert_eq!(rt; ending.served, Served::Cut, "{cut}");
             assert_eq!(rt; ending.written.as_slice(), INTERIM, "{cut}");
             assert!(rt; ending.left.is_empty());
+            assert_eq!(rt; pending, 0);
         }
     }
     Ok(())
@@ -191,9 +227,11 @@ fn connection_cut_after_head(rt: HostRuntime) -> Result<(), Fail> {
 #[test]
 fn connection_cut_in_head(rt: HostRuntime) -> Result<(), Fail> {
     for cut in 1..CURL_HEAD.len() {
-        let ending = served(rt.alloc(), CURL_HEAD.get(..cut).unwrap_or_default(), 0)?;
+        let head = CURL_HEAD.get(..cut).unwrap_or_default();
+        let (ending, pending) = served(rt.alloc(), head, 0)?;
         assert_eq!(rt; ending.served, Served::Cut, "{cut}");
         assert!(rt; ending.written.is_empty(), "{cut}");
+        assert_eq!(rt; pending, 0);
     }
     Ok(())
 }
@@ -205,9 +243,8 @@ fn no_memory_for_a_request(rt: HostRuntime) -> Result<(), Fail> {
     let bytes = joined(alloc, &[CURL_HEAD, CURL_BODY, BEHIND])?;
     let answer = joined(alloc, &[INTERIM, WANTING])?;
     let wanted = CURL_HEAD.len() + CURL_BODY.len();
-    assert_eq!(rt; wanted, 278);
     for piece in PIECES {
-        let ending = served(alloc, &bytes, piece)?;
+        let ending = served_without_memory(alloc, &bytes, piece)?;
         assert_eq!(rt; ending.served, Served::Answered { code: 507 });
         assert_eq!(rt; ending.written.as_slice(), answer.as_slice());
         assert_eq!(rt;

@@ -1,0 +1,25 @@
+// Numbers that look random, the same in each run.
+ghost use Rattle.std.specs.Prelude.{◌<◌};
+
+#[derive(Drop)]
+pub struct Chance {
+    state: u64,
+}
+
+impl Chance {
+    pub fn new(seed: u64) -> Chance {
+        Chance { state: seed }
+    }
+
+    /// The next number below a limit.
+    pub fn below(&mut self, limit: u64) -> u64
+        requires { 0 < limit }
+        ensures { result < limit }
+    {
+        self.state = self
+            .state
+            .wrapping_mul(6_364_136_223_846_793_005)
+            .wrapping_add(1_442_695_040_888_963_407);
+        (self.state >> 33) % limit
+    }
+}

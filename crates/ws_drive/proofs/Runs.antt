@@ -165,3 +165,9 @@ module _ (settings : Settings) (left left' left'' written written' written'' : O
     left_at left left' s.taken (λ rest. Unit {0}) _ s.consumed (if_told left' (λ rest. tt))
         (λ input rest e n. (s.played, was_played (omega arith), omega (arith, s.count), rest, e ∙ ap (λ t. t ++ rest) s.read, inr (s.count ∙ all), (w, s.wrote))),
   )
+
+-- before anything was read there was no memory
+pub undone : (settings : Settings) (left written : Option (List ℕ)) → Runs settings left left written written status.NoMemory
+undone settings left written =
+    wants settings left left left written written written 0 (start settings) (started settings left left written written refl refl) (omega arith)
+    ([], Consumes-none left left refl, tt) (Appends-none written written refl)

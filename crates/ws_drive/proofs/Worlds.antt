@@ -118,8 +118,8 @@ module _ {P : Type 0} (seen : P → List Event → Type 0) (settings : P → Set
     requested clock old new w stands late same ask said answered hub_time unstored =
         let policy = ap (λ (s : Settings). s.policy) stands.set in
         tells clock old new w stands late same (λ g t. answer g t ask w.settings.policy) said
-            (subst (λ p. Answered sole (seen new) (uses_time said) (moment new) (Said (λ g. answer g (moment new) ask p) said) w.history) policy answered)
-            hub_time unstored
+        (subst (λ p. Answered sole (seen new) (uses_time said) (moment new) (Said (λ g. answer g (moment new) ask p) said) w.history) policy answered)
+        hub_time unstored
 
     -- what a port heard
     module _ (stored : Bool) (apart : stored ≡ false) (faults : P → ℕ) (clock : ℕ) (old new : P) (w : World) (stands : IsWorld seen settings moment clock old w) (late : time w.history ≤ moment old)

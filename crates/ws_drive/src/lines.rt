@@ -67,7 +67,10 @@ fn desk_fault_line(alloc: Global, fault: DeskFault) -> Result<CowStr<'static>, N
 }
 
 /// The line of what the hub said of a request.
-pub fn answer_line(alloc: Global, said: Result<Told, DeskFault>) -> Result<CowStr<'static>, NoMemory>
+pub fn answer_line(
+    alloc: Global,
+    said: Result<Told, DeskFault>,
+) -> Result<CowStr<'static>, NoMemory>
     ensures { IfOk result (λ line. cow_str_bytes line ≡ answer_line (desk_response said)) }
 {
     match said {
@@ -77,7 +80,10 @@ pub fn answer_line(alloc: Global, said: Result<Told, DeskFault>) -> Result<CowSt
 }
 
 /// The line of what the hub said to an operator who revokes.
-pub fn revoke_line(alloc: Global, said: Result<Told, DeskFault>) -> Result<CowStr<'static>, NoMemory>
+pub fn revoke_line(
+    alloc: Global,
+    said: Result<Told, DeskFault>,
+) -> Result<CowStr<'static>, NoMemory>
     ensures { IfOk result (λ line. cow_str_bytes line ≡ revoke_line said) }
 {
     match said {

@@ -86,7 +86,7 @@ fn step<P: Port, S: Source, K: Sink>(
     requires settings { P.settings port.old ≡ settings.now }
     ensures steps { (w : World) → IsWorld P.seen P.settings P.moment clock.old port.old w
         → Steps settings.now.policy.gateway (S.left source.old) (S.left source.new) (K.written sink.old) (K.written sink.new)
-            w (IsWorld P.seen P.settings P.moment clock.new port.new) result }
+        w (IsWorld P.seen P.settings P.moment clock.new port.new) result }
     ensures causes { StopsFor (S.faults source.old) (S.faults source.new) (K.faults sink.old) (K.faults sink.new) result }
     ensures settings { P.settings port.new ≡ P.settings port.old }
 {

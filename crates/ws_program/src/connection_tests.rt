@@ -6,7 +6,8 @@ use ws_link::Status;
 
 const PLAIN: &str = "Content-Type: text/plain; charset=utf-8\r\n";
 
-const HEAD: &str = "POST / HTTP/1.1\r\nHost: 127.0.0.1:8080\r\nUser-Agent: curl/8.5.0\r\nAccept: */*\r\nContent-Length: 108\r\nContent-Type: application/x-www-form-urlencoded\r\nExpect: 100-continue\r\n\r\n";
+const HEAD: &str =
+    "POST / HTTP/1.1\r\nHost: 127.0.0.1:8080\r\nUser-Agent: curl/8.5.0\r\nAccept: */*\r\nContent-Length: 108\r\nContent-Type: application/x-www-form-urlencoded\r\nExpect: 100-continue\r\n\r\n";
 
 const CONTINUE: &str = "HTTP/1.1 100 Continue\r\n\r\n";
 

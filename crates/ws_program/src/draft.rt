@@ -50,7 +50,6 @@ const MAX_ALLOW: usize = 16;
 
 const DEFAULT_HUB: &str = "http://127.0.0.1:8080/";
 
-#[tactic(auto, using(crate::proofs::DefaultHub::default_is_key))]
 fn hub_or_default(alloc: Global, hub: Option<Key>) -> Result<Key, NoMemory>
     ensures value { IfOk result (λ key. key ≡ unwrap_or hub default_hub) }
     ensures key { IfSome hub (λ k. is_key k ≡ true) → IfOk result (λ key. is_key key ≡ true) }

@@ -10,6 +10,6 @@ returns-clause-connects g c w stands =
     let over = sym c.is_over.ensures ∙ c.if-not-is_over.false in
     let serves = rw c.new.ensures.items at serve.ensures.serves in
     if_ok c.connection_text.result c.connection_text.ensures
-        (λ text is. connected g.P.Port.seen g.P.Port.settings g.P.Port.moment g.P.Port.sole c.requires.sole g.P.Port.stored c.requires.unstored g.P.Port.faults
-        c.args.clock c.args.port.now serve.new.port w stands late serve.ensures.settings c.args.settings.now c.args.bytes.now _ _ text serve.result
-        (sym c.requires.settings ∙ stands.set) over serves (is ∙ ap connection_text c.deref.ensures.value))
+    (λ text is. connected g.P.Port.seen g.P.Port.settings g.P.Port.moment g.P.Port.sole c.requires.sole g.P.Port.stored c.requires.unstored g.P.Port.faults
+    c.args.clock c.args.port.now serve.new.port w stands late serve.ensures.settings c.args.settings.now c.args.bytes.now _ _ text serve.result
+    (sym c.requires.settings ∙ stands.set) over serves (is ∙ ap connection_text c.deref.ensures.value))

@@ -1,6 +1,7 @@
 // Connections and revocations in scripts, through the whole program. Expected outputs are written by hand.
 use crate::tests::{BASE, NO_OTHERS, played};
 use std::alloc::Global;
+use std::process::Abort;
 use std::test::Fail;
 use ws_link::Status;
 
@@ -30,8 +31,13 @@ fn answer(alloc: Global, status: &str, more: &str, text: &str) -> Result<String,
 }
 
 // A connection with these bytes, what was written to it, and the pending intents afterwards.
-fn serves(rt: &HostRuntime, bytes: &str, out: &str, pending: u64) -> Result<(), Fail> {
-    let alloc = rt.alloc();
+fn serves(
+    rt: &impl Abort,
+    alloc: Global,
+    bytes: &str,
+    out: &str,
+    pending: u64,
+) -> Result<(), Fail> {
     let script = format!(in alloc; "at 1000\n{}sum\nend\n", connection(alloc, bytes)?)?;
     let wanted = format!(in alloc; "{}pending {pending}\n{NO_OTHERS}", written(alloc, out)?)?;
     for pieces in [[].as_slice(), [1; 700].as_slice(), [7, 1, 3].as_slice()] {
@@ -52,16 +58,16 @@ fn connections(rt: HostRuntime) -> Result<(), Fail> {
     assert_eq!(rt; whole.len(), 278);
     let out = format!(in alloc; "{CONTINUE}{accepted}")?;
     assert_eq!(rt; out.len(), 138);
-    serves(&rt, &whole, &out, 1)?;
+    serves(&rt, alloc, &whole, &out, 1)?;
     // nothing is looked at behind the message
     let more = format!(in alloc; "{whole}GET / HTTP/1.1\r\n")?;
-    serves(&rt, &more, &out, 1)?;
+    serves(&rt, alloc, &more, &out, 1)?;
     // empty-connection
-    serves(&rt, "", "", 0)?;
+    serves(&rt, alloc, "", "", 0)?;
     // connection-cut-after-head
-    serves(&rt, HEAD, CONTINUE, 0)?;
+    serves(&rt, alloc, HEAD, CONTINUE, 0)?;
     // and cut inside the head
-    serves(&rt, "POST / HTTP/1.1\r\nHost: a\r\n", "", 0)
+    serves(&rt, alloc, "POST / HTTP/1.1\r\nHost: a\r\n", "", 0)
 }
 
 #[test]
@@ -114,7 +120,7 @@ fn refusals(rt: HostRuntime) -> Result<(), Fail> {
         ),
     ];
     for (bytes, status, more, text) in rows {
-        serves(&rt, bytes, &answer(alloc, status, more, text)?, 0)?;
+        serves(&rt, alloc, bytes, &answer(alloc, status, more, text)?, 0)?;
     }
     Ok(())
 }

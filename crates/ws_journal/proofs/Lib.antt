@@ -1,5 +1,6 @@
 mod Appending
 mod Between
+mod Blocks
 mod Files
 mod Found
 mod Gates

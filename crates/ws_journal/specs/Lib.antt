@@ -1,3 +1,4 @@
+pub mod Ahead
 pub mod Device
 pub mod Image
 pub mod Kept

@@ -1,5 +1,5 @@
 // Appending a batch to the device that counts.
-ghost use Rattle.std.specs.Prelude.{◌≡◌, ◌≤◌, ◌+◌, ◌^◌, ◌<◌, ◌∷◌, ◌++◌, [], ◌↔◌, ◌⊎◌, List, ℕ, length, take, Option, Some, None, Ok, Err, OnOk, OnErr, IsErr, IsErrOf};
+ghost use Rattle.std.specs.Prelude.{◌≡◌, ◌≢◌, ◌≤◌, ◌+◌, ◌^◌, ◌<◌, ◌∷◌, ◌++◌, [], ◌↔◌, ◌⊎◌, List, ℕ, length, take, Option, Some, None, Ok, Err, OnOk, OnErr, IsErr, IsErrOf};
 ghost use Rattle.ws_model.specs.Cause.{HasCause, Rose};
 ghost use Rattle.ws_disk.specs.Crash.{LeavesOnly};
 ghost use Rattle.ws_journal.specs.declared.append.Stop.TheVariants.{Before, InDoubt};
@@ -179,6 +179,7 @@ impl Journal {
             → StandsBeside D.moment D.images self.old store.old payloads newer → (PassesLimit self.old payload.now → ⊥)
             → AppendsBeside D.moment D.images self.old self.new store.old store.new payloads newer payload.now result }
         ensures place { HasTail D.honest D.moment D.images self.new store.new }
+        ensures memory { result ≢ Err AppendFault.NoMemory }
         ensures same { SameJournal self.old self.new }
         ensures honesty { D.honest (counting self.old.side store.new) ↔ D.honest (counting self.old.side store.old) }
         ensures other_honesty { D.honest (other self.old.side store.new) ↔ D.honest (other self.old.side store.old) }

@@ -1,6 +1,7 @@
 //! A journal of batches of events on two devices, which a crash at any moment leaves readable.
 #![tactic(auto)]
 
+mod ahead;
 mod append;
 mod choose;
 mod clear;

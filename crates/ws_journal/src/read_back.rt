@@ -3,9 +3,11 @@ ghost use Rattle.std.specs.Prelude.{◌≡◌, ◌<◌, ◌≤◌, ◌+◌, ◌�
 ghost use Rattle.ws_model.specs.Cause.{HasCause, Rose};
 ghost use Rattle.ws_journal.specs.Text.{record_text};
 ghost use Rattle.ws_journal.specs.Image.{digest_len};
+ghost use Rattle.ws_journal.specs.Ahead.{Shows};
 ghost use Rattle.ws_journal.specs.Looks.{OnlyReads};
 ghost use Rattle.ws_journal.specs.UpTo.{IsUpTo};
 
+use crate::ahead::Ahead;
 use crate::journal::Journal;
 use crate::scan::{FIRST_GATE, Start, read_bytes, read_start, start_bytes};
 use crate::store::{Edition, ReadBack, Side, Store};
@@ -16,18 +18,21 @@ use ws_model::Bytes;
 /// The length of the payload of the open record whose gate stands there, where it ends before that place.
 fn record_len<D: Disk>(
     disk: &mut D,
+    ahead: &mut Ahead,
     edition: Edition,
     at: u64,
     end: u64,
 ) -> Result<Option<u32>, DiskFailed>
+    requires { Shows D.honest D.seen disk.old ahead.old }
     ensures len { D.honest disk.old → (payload next : List ℕ) → length payload < 2 ^ 32 → 0 < length next
         → drop at (D.seen disk.old) ≡ 1 ∷ record_text edition payload ++ next → at + length (1 ∷ record_text edition payload) ≤ end
         → IfOk result (λ len. len ≡ Some (length payload)) }
     ensures room { IfOk result (λ found. IfSome found (λ len. at + (5 + digest_len edition + len) ≤ end)) }
+    ensures shows { Shows D.honest D.seen disk.new ahead.new }
     ensures reads { OnlyReads D.honest D.seen D.moment D.images D.faults disk.old disk.new }
     ensures cause { HasCause (D.faults disk.old) (D.faults disk.new) result }
 {
-    let Start::Open { len, .. } = read_start(disk, edition, at)? else {
+    let Start::Open { len, .. } = read_start(disk, ahead, edition, at)? else {
         return Ok(None);
     };
     if end.saturating_sub(at) < start_bytes(edition) + len as u64 {
@@ -39,18 +44,21 @@ fn record_len<D: Disk>(
 /// The place of the gate behind so many records, of those before the gate at `end`.
 fn skip_records<D: Disk>(
     disk: &mut D,
+    ahead: &mut Ahead,
     edition: Edition,
     end: u64,
     count: u64,
 ) -> Result<u64, DiskFailed>
+    requires { Shows D.honest D.seen disk.old ahead.old }
     ensures place { D.honest disk.old → (payloads : List (List ℕ)) (left : List ℕ) → count ≤ length payloads → IsUpTo edition 17 end payloads left (D.seen disk.old)
         → IfOk result (λ at. IsUpTo edition at end (drop count payloads) left (D.seen disk.old)) }
+    ensures shows { Shows D.honest D.seen disk.new ahead.new }
     ensures reads { OnlyReads D.honest D.seen D.moment D.images D.faults disk.old disk.new }
     ensures cause { HasCause (D.faults disk.old) (D.faults disk.new) result }
 {
     let mut at = FIRST_GATE;
     for _ in 0..count {
-        let Some(len) = record_len(disk, edition, at, end)? else {
+        let Some(len) = record_len(disk, ahead, edition, at, end)? else {
             // Only a device that someone else wrote has no open record before the last gate.
             return Ok(end);
         };
@@ -63,24 +71,27 @@ fn skip_records<D: Disk>(
 fn read_texts<D: Disk>(
     alloc: Global,
     disk: &mut D,
+    ahead: &mut Ahead,
     edition: Edition,
     from: u64,
     end: u64,
 ) -> Result<Vec<Bytes>, ReadBack>
+    requires { Shows D.honest D.seen disk.old ahead.old }
     ensures texts { D.honest disk.old → (payloads : List (List ℕ)) (left : List ℕ) → IsUpTo edition from end payloads left (D.seen disk.old)
         → IfOk result (λ texts. texts.items ≡ payloads) }
+    ensures shows { Shows D.honest D.seen disk.new ahead.new }
     ensures reads { OnlyReads D.honest D.seen D.moment D.images D.faults disk.old disk.new }
     ensures cause { result ≡ Err ReadBack.Disk → Rose (D.faults disk.old) (D.faults disk.new) }
 {
     let mut texts = Vec::new(alloc);
     let mut at = from;
     while at < end {
-        let Some(len) = record_len(disk, edition, at, end)? else {
+        let Some(len) = record_len(disk, ahead, edition, at, end)? else {
             // As above.
             return Ok(texts);
         };
         let place = at + start_bytes(edition);
-        let text = read_bytes(alloc, disk, place, len as usize)?;
+        let text = read_bytes(alloc, disk, ahead, place, len as usize)?;
         texts.push(Bytes::from_vec(text))?;
         at = place + len as u64;
     }
@@ -100,8 +111,9 @@ fn read_device_texts<D: Disk>(
     ensures reads { OnlyReads D.honest D.seen D.moment D.images D.faults disk.old disk.new }
     ensures cause { result ≡ Err ReadBack.Disk → Rose (D.faults disk.old) (D.faults disk.new) }
 {
-    let at = skip_records(disk, edition, end, from)?;
-    read_texts(alloc, disk, edition, at, end)
+    let mut ahead = Ahead::new(alloc, end)?;
+    let at = skip_records(disk, &mut ahead, edition, end, from)?;
+    read_texts(alloc, disk, &mut ahead, edition, at, end)
 }
 
 impl Journal {

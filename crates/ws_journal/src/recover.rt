@@ -10,6 +10,7 @@ ghost use Rattle.ws_journal.specs.Device.{FindsRecords, as_lists};
 ghost use Rattle.ws_journal.specs.Stands.{HasTail};
 ghost use Rattle.ws_journal.specs.Recovered.{CountsOn, Chooses, Confirmed, EndsWithin, RoseEither, IsNew, IsMaking, opened, Recovers, StillReads, StandsGiven, RecoverCrash};
 
+use crate::ahead::Ahead;
 use crate::choose::{Counting, choose};
 use crate::fresh::{FIRST_GENERATION, make_fresh};
 use crate::head::{LEAST_SIZE, read_head};
@@ -62,7 +63,8 @@ fn read_device<D: Disk>(
         // Only a device that someone else shortens is too short for the head that was just read.
         return Err(OpenFault::Damaged { at: FIRST_GATE });
     }
-    read_records(alloc, disk, edition, size)
+    let mut ahead = Ahead::new(alloc, size)?;
+    read_records(alloc, disk, &mut ahead, edition, size)
 }
 
 /// Reads the batches of the device that counts, and its tail.

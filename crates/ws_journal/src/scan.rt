@@ -5,8 +5,10 @@ ghost use Rattle.ws_record.specs.Batch.{batch_text, IsBatch};
 ghost use Rattle.ws_journal.specs.Text.{IsRecorded};
 ghost use Rattle.ws_journal.specs.Image.{digest_len};
 ghost use Rattle.ws_journal.specs.Device.{IsStart, FindsWhole, ChecksDigest, IsNoBatch, Checks, FindsRecord, FindsRecords, as_lists};
+ghost use Rattle.ws_journal.specs.Ahead.{Shows};
 ghost use Rattle.ws_journal.specs.Looks.{OnlyReads};
 
+use crate::ahead::Ahead;
 use crate::store::{Batch, Edition, OpenFault, ReadBack};
 use sha2::{Digest, Sha256};
 use std::alloc::Global;
@@ -90,15 +92,18 @@ fn judge_start(edition: Edition, bytes: &[u8]) -> Start
 /// Reads what stands at the gate there.
 pub(crate) fn read_start<D: Disk>(
     disk: &mut D,
+    ahead: &mut Ahead,
     edition: Edition,
     at: u64,
 ) -> Result<Start, DiskFailed>
+    requires { Shows D.honest D.seen disk.old ahead.old }
     ensures start { IfOk result (λ start. D.honest disk.old → at < length (D.seen disk.old) → IsStart edition (drop at (D.seen disk.old)) start) }
+    ensures shows { Shows D.honest D.seen disk.new ahead.new }
     ensures reads { OnlyReads D.honest D.seen D.moment D.images D.faults disk.old disk.new }
     ensures cause { HasCause (D.faults disk.old) (D.faults disk.new) result }
 {
     let mut bytes = [0; START_BYTES];
-    let count = disk.read_at(at, &mut bytes)?;
+    let count = ahead.read_at(disk, at, &mut bytes)?;
     Ok(judge_start(edition, &bytes[..count]))
 }
 
@@ -106,16 +111,19 @@ pub(crate) fn read_start<D: Disk>(
 pub(crate) fn read_bytes<D: Disk>(
     alloc: Global,
     disk: &mut D,
+    ahead: &mut Ahead,
     at: u64,
     len: usize,
 ) -> Result<Vec<u8>, ReadBack>
+    requires { Shows D.honest D.seen disk.old ahead.old }
     ensures bytes { IfOk result (λ bytes. D.honest disk.old → bytes.items ≡ take len (drop at (D.seen disk.old))) }
     ensures count { IfOk result (λ bytes. length bytes.items ≤ len) }
+    ensures shows { Shows D.honest D.seen disk.new ahead.new }
     ensures reads { OnlyReads D.honest D.seen D.moment D.images D.faults disk.old disk.new }
     ensures cause { result ≡ Err ReadBack.Disk → Rose (D.faults disk.old) (D.faults disk.new) }
 {
     let mut bytes = vec![in alloc; 0; len]?;
-    let count = disk.read_at(at, &mut bytes)?;
+    let count = ahead.read_at(disk, at, &mut bytes)?;
     bytes.truncate(count);
     Ok(bytes)
 }
@@ -124,18 +132,21 @@ pub(crate) fn read_bytes<D: Disk>(
 fn read_whole<D: Disk>(
     alloc: Global,
     disk: &mut D,
+    ahead: &mut Ahead,
     edition: Edition,
     size: u64,
     at: u64,
 ) -> Result<Option<Whole>, OpenFault>
-    requires { at < size }
+    requires within { at < size }
+    requires shows { Shows D.honest D.seen disk.old ahead.old }
     ensures whole { D.honest disk.old → size ≡ length (D.seen disk.old) → FindsWhole edition at (D.seen disk.old) result }
     ensures next { IfOk result (λ found. IfSome found (λ whole. (at < whole.next) × (whole.next < size))) }
     ensures short { IfOk result (λ found. IfSome found (λ whole. length whole.payload.items < 2 ^ 32)) }
+    ensures shows { Shows D.honest D.seen disk.new ahead.new }
     ensures reads { OnlyReads D.honest D.seen D.moment D.images D.faults disk.old disk.new }
     ensures cause { result ≡ Err OpenFault.Disk → Rose (D.faults disk.old) (D.faults disk.new) }
 {
-    let (len, kept) = match read_start(disk, edition, at)? {
+    let (len, kept) = match read_start(disk, ahead, edition, at)? {
         Start::Shut => return Ok(None),
         Start::Short => return Err(OpenFault::Damaged { at }),
         Start::Open { len, kept } => (len, kept),
@@ -144,7 +155,7 @@ fn read_whole<D: Disk>(
     if size - at <= before + len as u64 {
         return Err(OpenFault::Damaged { at });
     }
-    let payload = read_bytes(alloc, disk, at + before, len as usize)?;
+    let payload = read_bytes(alloc, disk, ahead, at + before, len as usize)?;
     Ok(Some(Whole {
         kept,
         payload,
@@ -211,15 +222,18 @@ fn check_payload(
 fn read_record<D: Disk>(
     alloc: Global,
     disk: &mut D,
+    ahead: &mut Ahead,
     edition: Edition,
     size: u64,
     at: u64,
 ) -> Result<Option<Record>, OpenFault>
-    requires { at < size }
+    requires within { at < size }
+    requires shows { Shows D.honest D.seen disk.old ahead.old }
     ensures record { D.honest disk.old → size ≡ length (D.seen disk.old) → FindsRecord edition at (D.seen disk.old) result }
     ensures next { IfOk result (λ found. IfSome found (λ one. (at < one.next) × (one.next < size))) }
     ensures batch { IfOk result (λ found. IfSome found (λ one. IsBatch one.events)) }
     ensures short { IfOk result (λ found. IfSome found (λ one. length (batch_text one.events) < 2 ^ 32)) }
+    ensures shows { Shows D.honest D.seen disk.new ahead.new }
     ensures reads { OnlyReads D.honest D.seen D.moment D.images D.faults disk.old disk.new }
     ensures cause { result ≡ Err OpenFault.Disk → Rose (D.faults disk.old) (D.faults disk.new) }
 {
@@ -229,7 +243,7 @@ fn read_record<D: Disk>(
             payload,
             next,
         },
-    ) = read_whole(alloc, disk, edition, size, at)?
+    ) = read_whole(alloc, disk, ahead, edition, size, at)?
     else {
         return Ok(None);
     };
@@ -241,20 +255,23 @@ fn read_record<D: Disk>(
 pub(crate) fn read_records<D: Disk>(
     alloc: Global,
     disk: &mut D,
+    ahead: &mut Ahead,
     edition: Edition,
     size: u64,
 ) -> Result<(Vec<Batch>, u64), OpenFault>
-    requires { 17 < size }
+    requires some { 17 < size }
+    requires shows { Shows D.honest D.seen disk.old ahead.old }
     ensures records { D.honest disk.old → size ≡ length (D.seen disk.old) → FindsRecords edition (drop 17 (D.seen disk.old)) (as_lists result) }
     ensures recorded { IfOk result (λ read. All IsRecorded read.0.items) }
     ensures tail { IfOk result (λ read. 17 < read.1) }
     ensures within { IfOk result (λ read. read.1 ≤ size) }
+    ensures shows { Shows D.honest D.seen disk.new ahead.new }
     ensures reads { OnlyReads D.honest D.seen D.moment D.images D.faults disk.old disk.new }
     ensures cause { result ≡ Err OpenFault.Disk → Rose (D.faults disk.old) (D.faults disk.new) }
 {
     let mut batches = Vec::new(alloc);
     let mut at = FIRST_GATE;
-    while let Some(record) = read_record(alloc, disk, edition, size, at)? {
+    while let Some(record) = read_record(alloc, disk, ahead, edition, size, at)? {
         let Record { events, next } = record;
         batches.push(Batch { at, events })?;
         at = next;

@@ -108,6 +108,17 @@ impl From<NoMemory> for OpenFault {
     }
 }
 
+impl From<AllocError> for OpenFault {
+    ghost use Rattle.std.specs.Prelude.{◌≡◌};
+    ghost use Rattle.ws_journal.specs.declared.store.OpenFault.TheVariants.{NoMemory};
+
+    ghost from_gives = { λ _ fault. fault ≡ NoMemory };
+
+    fn from(_: AllocError) -> Self {
+        OpenFault::NoMemory
+    }
+}
+
 impl<T: Drop> From<AllocFailed<T>> for OpenFault {
     ghost use Rattle.std.specs.Prelude.{◌≡◌};
     ghost use Rattle.ws_journal.specs.declared.store.OpenFault.TheVariants.{NoMemory};

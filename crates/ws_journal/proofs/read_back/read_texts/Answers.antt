@@ -36,6 +36,7 @@ loop-at-preserved g c =
     let loop = c.loop-at in
     let len_read = then_calls D.honest D.seen D.moment D.images D.faults c.args.disk.now loop.disk c.record_len.new.disk loop.invariant.reads c.in_ok-len.ensures.reads in
     record {
+      shows = c.in_ok-text.ensures.shows;
       reads = then_calls D.honest D.seen D.moment D.images D.faults c.args.disk.now c.record_len.new.disk c.read_bytes.new.disk len_read c.in_ok-text.ensures.reads;
       so_far = λ honest payloads left up.
           let same = (loop.invariant.reads.unwritten honest).same in

@@ -27,6 +27,7 @@ loop-preserved g c =
     let file = D.seen c.args.disk.now in
     let loop = c.loop in
     record {
+      shows = c.in_ok-len.ensures.shows;
       reads = then_calls D.honest D.seen D.moment D.images D.faults c.args.disk.now loop.disk c.record_len.new.disk loop.invariant.reads c.in_ok-len.ensures.reads;
       so_far = λ honest payloads left few up.
           let same = (loop.invariant.reads.unwritten honest).same in

@@ -33,6 +33,7 @@ loop-batches-preserved g c =
     record {
       begun = omega (arith, loop.invariant.begun, next.0);
       within = next.1;
+      shows = c.in_ok-record.ensures.shows;
       reads = then_calls D.honest D.seen D.moment D.images D.faults c.args.disk.now loop.disk c.read_record.new.disk loop.invariant.reads c.in_ok-record.ensures.reads;
       recorded = subst (All IsRecorded) (sym c.in_ok-push.ensures.items)
           (All-push IsRecorded loop.batches.items (record { at = loop.at; events = one.events }) loop.invariant.recorded (record { events = batch; short = short }));

@@ -207,3 +207,41 @@ fn pending_intents_up_to_their_limit(rt: HostRuntime) -> Result<(), Fail> {
     assert_eq!(rt; rest, wanted.as_bytes());
     Ok(())
 }
+
+// The happening of a form with this body.
+fn form(alloc: Global, body: &str) -> Result<String, Fail> {
+    Ok(format!(in alloc; "form {}\n{body}\n", body.len())?)
+}
+
+// A publication of so many topics.
+fn publication(alloc: Global, topics: u64) -> Result<String, Fail> {
+    let mut body = String::from_str(alloc, "hub.mode=publish")?;
+    for _ in 0..topics {
+        body.push_str("&hub.url=http://p.example/")?;
+    }
+    form(alloc, &body)
+}
+
+// form-faults-and-unleased-publish: of two topics the first counts, which alone is allowed here
+#[test]
+fn form_faults_and_unleased_publish(rt: HostRuntime) -> Result<(), Fail> {
+    let alloc = rt.alloc();
+    let twice = form(
+        alloc,
+        &format!(in alloc; "{BASE}&hub.topic=http://pub.example/y")?,
+    )?;
+    let missing = form(alloc, "hub.topic=http://pub.example/x")?;
+    let unknown = form(alloc, "hub.mode=ping")?;
+    let none = publication(alloc, 0)?;
+    let many = publication(alloc, 17)?;
+    let some = publication(alloc, 16)?;
+    let script = format!(in alloc; "{twice}{missing}{unknown}{none}{many}{some}sum\nend\n")?;
+    let wanted = format!(in alloc;
+        "answer 202 accepted\nanswer 400 hub.mode missing\nanswer 400 hub.mode unknown\nanswer 400 hub.url missing\nanswer 400 too many topics\nanswer 202 accepted\npending 1\n{NO_OTHERS}"
+    )?;
+    let line = "drive --allow http://pub.example/x";
+    let (got, status) = played(alloc, line, &script, &[], (&[], &[]))?;
+    assert_eq!(rt; status, Status::Ok);
+    assert_eq!(rt; got.as_slice(), wanted.as_bytes());
+    Ok(())
+}

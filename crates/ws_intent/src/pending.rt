@@ -1,5 +1,5 @@
 // The pending intents by number, with an index of their topics and callbacks and the first ones in order.
-ghost use Rattle.std.specs.Prelude.{◌≡◌, ◌≤◌, ◌<◌, ◌+◌, ◌&&◌, not, [], ℕ, List, OnOk, OnErr, IfOk, IsSome, MatchOption, Some, None, true, false, length, find, option_map, cond, ◌==◌, bytes_eq};
+ghost use Rattle.std.specs.Prelude.{◌≡◌, ◌≤◌, ◌<◌, ◌+◌, ◌&&◌, not, [], ℕ, List, OnOk, OnErr, IfOk, IsSome, IfSome, MatchOption, Some, None, true, false, length, find, option_map, cond, ◌==◌, bytes_eq};
 ghost use Rattle.std.specs.Option.{option_copied};
 ghost use Rattle.std.specs.List.{sum_by};
 ghost use Rattle.std.specs.Map.{values_of};
@@ -68,7 +68,8 @@ impl Pending {
 
     /// The greatest number.
     pub fn last(&self) -> Option<u64>
-        ensures { MatchOption result ((q : ℕ) → number_at q self.now ≡ None) (λ n. (q : ℕ) → IsSome (number_at q self.now) → q ≤ n) }
+        ensures greatest { MatchOption result ((q : ℕ) → number_at q self.now ≡ None) (λ n. (q : ℕ) → IsSome (number_at q self.now) → q ≤ n) }
+        ensures held { IfSome result (λ n. IsSome (number_at n self.now)) }
     {
         match self.by_number.last_key_value() {
             Some((n, _)) => Some(*n),

@@ -1,5 +1,5 @@
 // The table of intents.
-ghost use Rattle.std.specs.Prelude.{◌≡◌, ◌<◌, ◌∷◌, ◌++◌, [], not, ℕ, List, OnOk, OnErr, IsSome, MatchOption, ◌≤◌, Some, None, find, filter, length, option_map, cond, ◌==◌};
+ghost use Rattle.std.specs.Prelude.{◌≡◌, ◌<◌, ◌∷◌, ◌++◌, [], not, ℕ, List, OnOk, OnErr, IsSome, MatchOption, IfSome, ◌≤◌, Some, None, find, filter, length, option_map, cond, ◌==◌};
 ghost use Rattle.std.specs.Option.{option_copied};
 ghost use Rattle.std.specs.List.{sum_by};
 ghost use Rattle.std.specs.Map.{values_of};
@@ -200,7 +200,8 @@ impl Intents {
 
     /// The greatest number of a pending intent.
     pub fn last(&self) -> Option<u64>
-        ensures { MatchOption result ((q : ℕ) → number_at q self.now.pending ≡ None) (λ n. (q : ℕ) → IsSome (number_at q self.now.pending) → q ≤ n) }
+        ensures greatest { MatchOption result ((q : ℕ) → number_at q self.now.pending ≡ None) (λ n. (q : ℕ) → IsSome (number_at q self.now.pending) → q ≤ n) }
+        ensures held { IfSome result (λ n. IsSome (number_at n self.now.pending)) }
     {
         self.pending.last()
     }

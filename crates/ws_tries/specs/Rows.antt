@@ -1,5 +1,6 @@
 -- What a table of tries shows (own).
 use Rattle.std.specs.Prelude.{ℕ, Bool, List, ◌==◌, ◌&&◌, Option}
+use Rattle.std.specs.List.{list_any}
 use Rattle.std.specs.Ordering.{nat_cmp, ordering_then}
 use Rattle.std.specs.declared.cmp.Ordering.{Ordering}
 use Rattle.std.specs.Map.{lookup}
@@ -21,3 +22,7 @@ tries_at v n rows = lookup (is_at (pair_order (n, v))) rows
 -- it is this version and this lease
 abbrev pub is_here : ℕ → ℕ → ℕ → ℕ → Bool
 is_here ver lease v n = (lease == n) && (ver == v)
+
+-- the pair is one of these, each a version and a lease
+abbrev pub is_listed : ℕ → ℕ → List (ℕ × ℕ) → Bool
+is_listed v n pairs = list_any (λ p. (p.0 == v) && (p.1 == n)) pairs

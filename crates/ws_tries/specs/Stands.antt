@@ -1,9 +1,10 @@
 -- For which history the rooms of a table stand, and how they go on (own).
-use Rattle.std.specs.Prelude.{◌≡◌, ℕ, ◌≤◌, ◌<◌, Bool, true, false, cond, List, [], ◌∷◌, ◌++◌, length, option_map, Some, None, IfSome}
+use Rattle.std.specs.Prelude.{◌≡◌, ℕ, ◌≤◌, ◌<◌, Bool, true, false, cond, List, [], ◌∷◌, ◌++◌, length, map, filter, reverse, option_map, Some, None, IfSome}
 use Rattle.ws_model.specs.declared.event.Event.{Event}
 use Rattle.ws_model.specs.declared.event.How.{How}
 use Rattle.ws_model.specs.declared.event.What.{What}
 use Rattle.ws_model.specs.declared.event.What.TheVariants.{Pushed}
+use Rattle.ws_model.specs.Fate.{is_push}
 use Rattle.ws_model.specs.Legal.{Legal}
 use Rattle.ws_model.specs.Verdict.{pair_of}
 use Rattle.ws_tries.specs.declared.room.Try.{Try}
@@ -18,6 +19,14 @@ tried v n e _ = []
 abbrev pub tries_of : List Event → ℕ → ℕ → List Try
 tries_of [] v n = []
 tries_of (e ∷ h) v n = tries_of h v n ++ tried v n e e.what
+
+-- the event that a try of this pair is of
+abbrev pub event_of : ℕ → ℕ → Try → Event
+event_of v n made = record { serial = made.serial; t = made.t; what = Pushed v n made.how }
+
+-- as events, the tries of a pair are all its pushes in the history, the oldest first
+abbrev pub ArePushes : Type 0
+ArePushes = (h : List Event) (v n : ℕ) → map (event_of v n) (tries_of h v n) ≡ reverse (filter (λ e. is_push (λ how. true) v n e.what) h)
 
 -- each pair that has a room has exactly its tries of the history there
 abbrev pub StandsFor : List Event → Rows → Type 0
@@ -34,12 +43,12 @@ StandsAfter =
     (h : List Event) (e : Event) (ver lease : ℕ) (how : How) (old new : Rows)
     → e.what ≡ Pushed ver lease how → StandsFor h old → Adds ver lease (record { serial = e.serial; t = e.t; how = how }) old new → StandsFor (e ∷ h) new
 
-abbrev pub is_push : What → Bool
-is_push (Pushed v n how) = true
-is_push _ = false
+abbrev pub is_any_push : What → Bool
+is_any_push (Pushed v n how) = true
+is_any_push _ = false
 
 abbrev pub StandsOn : Type 0
-StandsOn = (h : List Event) (e : Event) (rows : Rows) → is_push e.what ≡ false → StandsFor h rows → StandsFor (e ∷ h) rows
+StandsOn = (h : List Event) (e : Event) (rows : Rows) → is_any_push e.what ≡ false → StandsFor h rows → StandsFor (e ∷ h) rows
 
 -- ---- rooms that are made and given back
 

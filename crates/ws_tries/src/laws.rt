@@ -1,5 +1,10 @@
 // How the rooms go on with the history. Each function's contract is a law, and its body is empty.
-ghost use Rattle.ws_tries.specs.Stands.{AtMostEight, GivesBack, MakesRoom, HasPlace, StandsAfter, StandsOn, Untried};
+ghost use Rattle.ws_tries.specs.Stands.{ArePushes, AtMostEight, GivesBack, MakesRoom, HasPlace, StandsAfter, StandsOn, Untried};
+
+/// The tries of a pair that a history has are, as events, its pushes, the oldest first.
+pub fn are_pushes()
+    ensures { ArePushes }
+{}
 
 /// Rooms that stand for a history, and get the try of a push behind the others of its pair, stand for the
 /// history with that push.

@@ -3,6 +3,7 @@
 
 pub mod laws;
 mod room;
+mod rooms;
 mod table;
 #[cfg(test)]
 mod tests;

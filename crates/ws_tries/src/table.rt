@@ -1,12 +1,13 @@
 // The table of pairs with their tries.
-ghost use Rattle.std.specs.Prelude.{◌≡◌, ◌∷◌, ◌++◌, ◌<◌, [], ℕ, None, Some, List, cond, length, option_map, OnOk, OnErr};
+ghost use Rattle.std.specs.Prelude.{◌≡◌, ◌∷◌, ◌++◌, ◌<◌, [], ℕ, None, Some, List, true, cond, length, option_map, OnOk, OnErr};
 ghost use Rattle.std.specs.Option.{IsSomeAnd};
 ghost use Rattle.std.specs.List.Sorted.{IsStrictlySortedBy};
 ghost use Rattle.std.specs.Map.{keys_of};
 ghost use Rattle.ws_model.specs.declared.event.Event.{Event};
-ghost use Rattle.ws_tries.specs.Rows.{is_here, pair_order, tries_at};
+ghost use Rattle.ws_tries.specs.Rows.{is_here, is_listed, pair_order, tries_at};
 ghost use Rattle.ws_tries.specs.Stands.{StandsFor};
 
+use crate::rooms::{self, ByPair};
 use crate::{Room, Try};
 use std::alloc::Global;
 use std::collections::BTreeMap;
@@ -19,7 +20,7 @@ use ws_model::NoMemory;
 #[derive(Drop)]
 pub struct Tries {
     alloc: Global,
-    by_pair: BTreeMap<(u64, u64), Room>,
+    by_pair: ByPair,
 }
 
 impl Model for Tries {
@@ -65,9 +66,17 @@ impl Tries {
         ensures look { OnOk result ((v n : ℕ) → tries_at v n self.new ≡ cond (is_here ver lease v n) (Some []) (tries_at v n self.old)) }
         ensures err { OnErr result (self.new ≡ self.old) }
     {
-        let room = Room::new(self.alloc)?;
-        self.by_pair.insert((lease, ver), room)?;
-        Ok(())
+        rooms::make(self.alloc, &mut self.by_pair, ver, lease)
+    }
+
+    /// Gives each of these pairs, each a version and a lease, a room without tries, in which eight have
+    /// their place: all of them or none. At an error the table is as before.
+    pub fn make_rooms(&mut self, pairs: &[(u64, u64)]) -> Result<(), NoMemory>
+        requires new { (v n : ℕ) → is_listed v n pairs.now ≡ true → tries_at v n self.old ≡ None }
+        ensures look { OnOk result ((v n : ℕ) → tries_at v n self.new ≡ cond (is_listed v n pairs.now) (Some []) (tries_at v n self.old)) }
+        ensures err { OnErr result (self.new ≡ self.old) }
+    {
+        rooms::make_all(self.alloc, &mut self.by_pair, pairs)
     }
 
     /// Adds a try behind the others of its pair. It takes no memory.
@@ -86,6 +95,14 @@ impl Tries {
     pub fn give_back(&mut self, ver: u64, lease: u64)
         ensures look { (v n : ℕ) → tries_at v n self.new ≡ cond (is_here ver lease v n) None (tries_at v n self.old) }
     {
-        let _ = self.by_pair.remove(&(lease, ver));
+        rooms::give_back(&mut self.by_pair, ver, lease);
+    }
+
+    /// Takes the rooms of these pairs, each a version and a lease, away, with their tries. It takes no
+    /// memory. A pair without a room changes nothing.
+    pub fn give_back_all(&mut self, pairs: &[(u64, u64)])
+        ensures look { (v n : ℕ) → tries_at v n self.new ≡ cond (is_listed v n pairs.now) None (tries_at v n self.old) }
+    {
+        rooms::give_back_each(&mut self.by_pair, pairs);
     }
 }

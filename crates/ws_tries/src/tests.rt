@@ -18,8 +18,8 @@ fn a_try_is_compact(rt: HostRuntime) -> Result<(), Fail> {
 fn pairs_and_their_tries(rt: HostRuntime) -> Result<(), Fail> {
     let mut tries = Tries::empty(rt.alloc());
     assert!(rt; tries.of(1, 2).is_none());
-    tries.make_room(1, 2)?;
-    tries.make_room(2, 1)?;
+    tries.make_rooms(&[(1, 2), (2, 1)])?;
+    tries.make_room(3, 1)?;
     tries.add(1, 2, made(7, 1010, How::Missed(503)));
     tries.add(2, 1, made(8, 1010, How::Gone));
     tries.add(1, 2, made(9, 1020, How::Done));
@@ -29,10 +29,13 @@ fn pairs_and_their_tries(rt: HostRuntime) -> Result<(), Fail> {
         .rooms()
         .map(|(pair, room)| (*pair, room.as_slice().len()));
     assert_eq!(rt; pairs.next(), Some(((1, 2), 1)));
+    assert_eq!(rt; pairs.next(), Some(((1, 3), 0)));
     assert_eq!(rt; pairs.next(), Some(((2, 1), 2)));
     assert_eq!(rt; pairs.next(), None);
     tries.give_back(1, 2);
     assert!(rt; tries.of(1, 2).is_none());
     assert_eq!(rt; tries.of(2, 1), Some(&[made(8, 1010, How::Gone)][..]));
+    tries.give_back_all(&[(2, 1), (3, 1)]);
+    assert!(rt; tries.of(2, 1).is_none());
     Ok(())
 }

@@ -1,5 +1,5 @@
 // The table of pairs with their tries.
-ghost use Rattle.std.specs.Prelude.{◌≡◌, ◌∷◌, ◌++◌, ◌<◌, [], ℕ, None, Some, List, true, cond, length, option_map, OnOk, OnErr};
+ghost use Rattle.std.specs.Prelude.{◌≡◌, ◌∷◌, ◌++◌, ◌<◌, ◌^◌, ◌==◌, [], ℕ, None, Some, List, true, cond, filter, length, option_map, OnOk, OnErr};
 ghost use Rattle.std.specs.Option.{IsSomeAnd};
 ghost use Rattle.std.specs.List.Sorted.{IsStrictlySortedBy};
 ghost use Rattle.std.specs.Map.{keys_of};
@@ -11,7 +11,7 @@ use crate::rooms::{self, ByPair};
 use crate::{Room, Try};
 use std::alloc::Global;
 use std::collections::BTreeMap;
-use std::collections::btree_map::Iter;
+use std::collections::btree_map::{Iter, Range};
 use std::marker::Model;
 use ws_model::NoMemory;
 
@@ -57,6 +57,15 @@ impl Tries {
         ensures ordered { IsStrictlySortedBy pair_order (keys_of self.now) }
     {
         self.by_pair.iter()
+    }
+
+    /// The pairs of one lease by version, each as the numbers of its lease and its version, with their
+    /// rooms. It takes no memory.
+    pub fn rooms_of(&self, lease: u64) -> Range<'_, (u64, u64), Room>
+        requires { lease < 2 ^ 63 }
+        ensures { result ≡ filter (λ e. e.0.0 == lease) self.now }
+    {
+        self.by_pair.range((lease, 0)..(lease + 1, 0))
     }
 
     /// Gives a pair a room without tries, in which eight have their place. At an error the table is as

@@ -32,6 +32,10 @@ fn pairs_and_their_tries(rt: HostRuntime) -> Result<(), Fail> {
     assert_eq!(rt; pairs.next(), Some(((1, 3), 0)));
     assert_eq!(rt; pairs.next(), Some(((2, 1), 2)));
     assert_eq!(rt; pairs.next(), None);
+    let mut versions = tries.rooms_of(1).map(|(pair, _)| pair.1);
+    assert_eq!(rt; versions.next(), Some(2));
+    assert_eq!(rt; versions.next(), Some(3));
+    assert_eq!(rt; versions.next(), None);
     tries.give_back(1, 2);
     assert!(rt; tries.of(1, 2).is_none());
     assert_eq!(rt; tries.of(2, 1), Some(&[made(8, 1010, How::Gone)][..]));

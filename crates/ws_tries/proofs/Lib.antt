@@ -1,0 +1,4 @@
+pub mod Keyed
+pub mod Listed
+pub mod Pushes
+pub mod Tried

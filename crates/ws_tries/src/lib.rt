@@ -1,0 +1,12 @@
+//! The pushes of each pair of a version and a lease, in rooms that are taken when the pair is made.
+#![tactic(auto)]
+
+pub mod laws;
+mod room;
+mod rooms;
+mod table;
+#[cfg(test)]
+mod tests;
+
+pub use room::{Room, Try};
+pub use table::Tries;

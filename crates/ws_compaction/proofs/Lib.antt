@@ -12,4 +12,6 @@ pub mod Continued
 pub mod Shortened
 pub mod Pairs
 pub mod Least
+pub mod Dropped
+pub mod DroppedEvents
 pub mod Examples

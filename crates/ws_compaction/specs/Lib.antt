@@ -1,3 +1,4 @@
 pub mod Compaction
 pub mod Least
 pub mod Shortened
+pub mod Dropped

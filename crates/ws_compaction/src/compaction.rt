@@ -1,4 +1,5 @@
 // The law of compaction. Each function's contract is a law, and its body is empty.
+ghost use Rattle.ws_compaction.specs.Dropped.{DropsEvent, DropsEventLater, DropsLease, DropsLeaseLater, DropsVersion, DropsVersionLater};
 ghost use Rattle.ws_compaction.specs.Least.{KeepsLeast};
 ghost use Rattle.ws_compaction.specs.Shortened.{AnyCompactions};
 ghost use Rattle.ws_compaction.specs.Compaction.{CompactionLaw, KeepIsLegal, KeepsAgain, KeepsCounts, KeepsPairs, KeepsView};
@@ -41,4 +42,34 @@ pub fn keeps_again()
 /// After any number of compactions, what is left goes on as the history that none has touched.
 pub fn any_compactions()
     ensures { AnyCompactions }
+{}
+
+/// A version that no compaction would keep at a moment, none keeps later.
+pub fn drops_version_later()
+    ensures { DropsVersionLater }
+{}
+
+/// A lease that no compaction would keep at a moment, none keeps later.
+pub fn drops_lease_later()
+    ensures { DropsLeaseLater }
+{}
+
+/// An event that no compaction would keep at a moment, none keeps later.
+pub fn drops_event_later()
+    ensures { DropsEventLater }
+{}
+
+/// A version that no compaction would keep at the time of an event, none keeps right after it.
+pub fn drops_version()
+    ensures { DropsVersion }
+{}
+
+/// A lease that no compaction would keep at the time of an event, none keeps right after it.
+pub fn drops_lease()
+    ensures { DropsLease }
+{}
+
+/// An event that no compaction would keep at the time of another one, none keeps right after that.
+pub fn drops_event()
+    ensures { DropsEvent }
 {}

@@ -29,7 +29,7 @@ first_tells : (before : ℕ) (s : ReplyStage) → Tells (said_first before s) s
 first_tells before (stage.Head at) = refl
 first_tells before (stage.Fixed f total) = refl
 first_tells before (stage.Lasting f) = refl
-first_tells before (stage.Chunked f place size) = refl
+first_tells before (stage.Chunked f p) = refl
 first_tells before (stage.Whole f total chunked) = refl
 first_tells before (stage.Bad reason) = refl
 first_tells before stage.NoMemory = refl
@@ -45,7 +45,7 @@ said_tells : (before : ℕ) (old new : ReplyStage) → Tells (said before old ne
 said_tells before (stage.Head at) new = first_tells before new
 said_tells before (stage.Fixed f total) new = untold_tells _ new (first_tells before new)
 said_tells before (stage.Lasting f) new = untold_tells _ new (first_tells before new)
-said_tells before (stage.Chunked f place size) new = untold_tells _ new (first_tells before new)
+said_tells before (stage.Chunked f p) new = untold_tells _ new (first_tells before new)
 said_tells before (stage.Whole f total chunked) new = untold_tells _ new (first_tells before new)
 said_tells before (stage.Bad reason) new = untold_tells _ new (first_tells before new)
 said_tells before stage.NoMemory new = untold_tells _ new (first_tells before new)
@@ -88,7 +88,7 @@ open_verdict : (need : Need) (raw body : List ℕ) (s : ReplyStage) (v : Verdict
 open_verdict need raw body (stage.Head at) v open_yet says = ap is_final says
 open_verdict need raw body (stage.Fixed f total) v open_yet says = ap is_final says
 open_verdict need raw body (stage.Lasting f) v open_yet says = ap is_final says.2
-open_verdict need raw body (stage.Chunked f place size) v open_yet says = ap is_final says
+open_verdict need raw body (stage.Chunked f p) v open_yet says = ap is_final says
 open_verdict need raw body (stage.Whole f total chunked) v open_yet says = cc
 open_verdict need raw body (stage.Bad reason) v open_yet says = cc
 open_verdict need raw body stage.NoMemory v open_yet says = cc

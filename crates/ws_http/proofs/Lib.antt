@@ -8,9 +8,11 @@ pub mod StayLemmas
 pub mod PieceLemmas
 pub mod ExtentLemmas
 pub mod ReplyLemmas
+pub mod FlowLemmas
 pub mod ReplyStageLemmas
 pub mod ReplyReaderLemmas
 pub mod ReplyTailLemmas
+pub mod ReplyChunkLemmas
 pub mod ReplyPartLemmas
 pub mod FitLemmas
 pub mod OutcomeLemmas

@@ -1,28 +1,22 @@
 -- The heads and the chunked body of a response, piece by piece.
-use Rattle.std.proofs.Common.{◌≡◌, ℕ, zero, suc, ◌+◌, ◌-◌, ◌<◌, ◌≤◌, Bool, true, false, List, [], ◌∷◌, ◌++◌, length, take, drop, refl, sym, ap, ◌∙◌, arith, append_assoc, append-nil, length-append, length-drop, length-take, length-take-le, drop-drop}
-use Rattle.std.specs.Prelude.{nat_lt, nat_le, min, ◌==◌, MatchBool, IsTrue, None}
+use Rattle.std.proofs.Common.{◌≡◌, ℕ, zero, suc, ◌+◌, ◌-◌, ◌<◌, ◌≤◌, true, List, [], ◌∷◌, ◌++◌, length, take, drop, refl, sym, ap, ◌∙◌, subst, arith, inl, inr, append_assoc, append-nil, length-append, length-drop, length-take, drop-drop}
+use Rattle.std.specs.Prelude.{nat_le, ◌⊎◌, IsTrue, None}
 use Rattle.std.specs.List.{flat_map, AllByRecursion}
-use Rattle.std.proofs.lemmas.Bool.Decides.{nat_tests}
 use Rattle.std.proofs.lemmas.List.{flat_map_more, take-take, take_all}
 use Rattle.std.proofs.lemmas.List.Elements.{All-from_recursion}
 use Rattle.std.specs.Char.{is_ascii_digit}
-use Rattle.httparse.specs.Grammar.{ResponseHead, IsResponseHead, print_response, status_code, LineEnd, crlf, lf, print_end, print_section, print_field, print_blank, print_version, print_reason}
+use Rattle.httparse.specs.Grammar.{ResponseHead, ReadsResponse, IsResponseHead, print_response, status_code, LineEnd, crlf, lf, print_end, print_section, print_field, print_blank, print_version, print_reason}
 use Rattle.ws_http.specs.declared.fed.Need.{Need}
 use Rattle.ws_http.specs.declared.fed.Need.TheVariants as need
 use Rattle.ws_http.specs.declared.reply_head.FinalHead.{FinalHead}
 use Rattle.ws_http.specs.declared.chunk.Line.{Line}
-use Rattle.ws_http.specs.declared.chunk.Line.TheVariants as line
 use Rattle.ws_http.specs.declared.chunk.Next.{Next}
-use Rattle.ws_http.specs.declared.chunk.Next.TheVariants as next
-use Rattle.ws_model.specs.Legal.{body_limit}
-use Rattle.ws_http.specs.Chunks.{Follows, LineIs, LineNext, TrailerNext, end_next}
+use Rattle.ws_http.specs.Chunks.{Follows, LineIs, LineNext}
 use Rattle.ws_http.specs.ResponseFields.{kept_of}
-use Rattle.ws_http.specs.Responses.{IsResponse, unfinished, partial, is_interim, IsInterim, print_heads, is_over}
+use Rattle.ws_http.specs.Responses.{IsResponse, unfinished, partial, is_interim, IsInterim, print_heads}
 use Rattle.ws_http.specs.ResponseHeads.{HasHeadOf}
-use Rattle.ws_http.specs.ResponseStages.{HasInterims, HasFinal, HasData}
+use Rattle.ws_http.specs.ResponseStages.{HasInterims, HasFinal, HeadWithin, Unled}
 use Rattle.ws_http.specs.ResponseData.{more_of}
-use Rattle.ws_http.proofs.ChunkLemmas.{chunk_found, no_trailer_chunk, end_found, no_chunk_by}
-use Rattle.ws_http.proofs.StageLemmas.{chunks_go_on}
 
 -- ---- the heads
 
@@ -86,6 +80,17 @@ final_found front f len h k x code sum = record {
 }
 
 -- a head of a response
+-- a head ends behind the one that stands where the reading began
+pub within_more : (front : List ℕ) (from at len : ℕ) (h : ResponseHead) → (at ≡ from) ⊎ HeadWithin front from at → HasHeadOf (drop at front) len h
+    → HeadWithin front from (at + len)
+within_more front from at len h (inl e) k = record {
+  head = h;
+  rest = drop len (drop at front);
+  reads = subst (λ (j : ℕ). ReadsResponse (drop j front) h (drop len (drop at front))) e k.reads;
+  before = omega (arith, e, k.len_is);
+}
+within_more front from at len h (inr w) k = record { head = w.head; rest = w.rest; reads = w.reads; before = omega (arith, w.before) }
+
 sample : ResponseHead
 sample = record { blank = []; minor = 1; digits = 50 ∷ 48 ∷ 48 ∷ []; reason = None; line_end = crlf; fields = []; last = crlf }
 
@@ -110,6 +115,13 @@ nothing_came n = record {
     (print_response sample, sample, (is_sample, sym (append-nil (print_response sample)))),
   );
   says = refl;
+}
+
+-- nor a head
+pub unled_none : Unled [] 0
+unled_none = record {
+  none = λ h rest r. omega (arith, ap length r.1, response_some h, length-append (print_response h) rest);
+  short = omega arith;
 }
 
 -- ---- the part of a body that is kept
@@ -140,74 +152,6 @@ kept_short need.Full content = omega arith
 
 -- ---- the chunks
 
-line_by : (rest : List ℕ) (len sz l n : ℕ) (b : Bool) → (sz == 0) ≡ b
-    → MatchBool b (TrailerNext len (drop len rest) (next.Chunk l n)) (next.Chunk l n ≡ end_next len sz (drop sz (drop len rest)))
-    → line.Whole len sz ≡ line.Whole l n
-line_by rest len sz l n true t m = absurd (no_trailer_chunk len _ m.0 l n m.2)
-line_by rest len sz l n false t m =
-    let e = end_found (drop sz (drop len rest)) l n len sz m in
-    λ i. line.Whole (sym e.2 i) (sym e.3 i)
-
--- the line of a chunk that was found
-pub line_same : (rest : List ℕ) (x : Line) (l n : ℕ) → LineNext rest x (next.Chunk l n) → x ≡ line.Whole l n
-line_same rest line.Open l n m = absurd (no_chunk_by false l n m)
-line_same rest line.Never l n m = absurd (no_chunk_by true l n m)
-line_same rest (line.Whole len sz) l n m = line_by rest len sz l n (sz == 0) refl m
-
-follows_by : (rest : List ℕ) (x : Line) (n : Next) → LineIs rest x → LineNext rest x n → Follows rest n
+pub follows_by : (rest : List ℕ) (x : Line) (n : Next) → LineIs rest x → LineNext rest x n → Follows rest n
 unfolding Follows
 follows_by rest x n is m = (x, is, m)
-
-below : (size n room : ℕ) → nat_lt body_limit (size + min n room) ≡ false → n ≤ room → size + n ≤ body_limit
-below size n room e fits =
-    let least : min n room ≡ n = omega arith in
-    let same : nat_lt body_limit (size + n) ≡ false = ap (λ (k : ℕ). nat_lt body_limit (size + k)) (sym least) ∙ e in
-    grind (arith, nat_tests, same)
-
--- no chunk was read yet
-pub data_begin : (n : Need) (bytes : List ℕ) → HasData n bytes (kept_of n []) 0 0
-data_begin n bytes = record {
-  content = [];
-  read = record {
-    chunks = [];
-    after = record { each = tt; split = refl };
-    place = refl;
-    content = refl;
-    inside = omega arith;
-    small = omega arith;
-  };
-  kept = refl;
-  counted = refl;
-  small = omega arith;
-}
-
--- one chunk more
-pub data_more : (nd : Need) (bytes body : List ℕ) (place size : ℕ) (l : Line) (len n : ℕ) → HasData nd bytes body place size
-    → LineIs (drop place bytes) l → is_over size (length (drop place bytes)) l ≡ false → LineNext (drop place bytes) l (next.Chunk len n)
-    → HasData nd bytes (body ++ more_of nd (length body) (take n (drop len (drop place bytes)))) (place + (len + n + 2)) (size + n)
-data_more nd bytes body place size l len n k is over m =
-    let rest = drop place bytes in
-    let follows = follows_by rest l (next.Chunk len n) is m in
-    let f = chunk_found rest len n follows in
-    let more = take n (drop len rest) in
-    let inside : n + 2 ≤ length (drop len rest) = omega (arith, ap length f.end, length-drop n (drop len rest)) in
-    let part : length more ≡ n = length-take-le n (drop len rest) (omega arith) in
-    let total : length (k.content ++ more) ≡ length k.content + n = omega (arith, length-append k.content more, part) in
-    let light : nat_lt body_limit (size + min n (length rest - len)) ≡ false =
-    ap (λ (x : Line). is_over size (length rest) x) (sym (line_same rest l len n m)) ∙ over in
-    let small : size + n ≤ body_limit = below size n (length rest - len) light (omega (arith, length-drop len rest)) in
-    record {
-      content = k.content ++ more;
-      read = chunks_go_on 0 place len n bytes k.content k.read follows;
-      kept = kept_more nd body k.content more k.kept;
-      counted = omega (arith, k.counted, total);
-      small = omega (arith, small, k.counted, total);
-    }
-
-pub data_smaller : (nd : Need) (bytes body : List ℕ) (place size : ℕ) (l : Line) (len n : ℕ) → HasData nd bytes body place size
-    → LineIs (drop place bytes) l → LineNext (drop place bytes) l (next.Chunk len n)
-    → (len + n + 2 ≤ length (drop place bytes)) × (place ≤ length bytes)
-data_smaller nd bytes body place size l len n k is m =
-    let rest = drop place bytes in
-    let f = chunk_found rest len n (follows_by rest l (next.Chunk len n) is m) in
-    (omega (arith, ap length f.end, length-drop n (drop len rest), length-drop len rest, f.is.4), k.read.inside)

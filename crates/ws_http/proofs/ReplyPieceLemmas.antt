@@ -14,7 +14,7 @@ starved_last : (s : ReplyStage) → is_last s ≡ false → is_starved s ≡ fal
 starved_last (stage.Head at) e = refl
 starved_last (stage.Fixed f total) e = refl
 starved_last (stage.Lasting f) e = refl
-starved_last (stage.Chunked f place size) e = refl
+starved_last (stage.Chunked f p) e = refl
 starved_last (stage.Whole f total chunked) e = refl
 starved_last (stage.Bad reason) e = refl
 starved_last stage.NoMemory e = absurd (false≢true (sym e))
@@ -42,7 +42,7 @@ in_pieces came r (s ∷ steps) st f = (
 )
 
 pub from_fresh : (n : Need) → Stands (fresh_reply n) [] false
-from_fresh n = record { verdict = unfinished; is = nothing_came n; says = refl; kept = λ _. refl }
+from_fresh n = record { verdict = unfinished; is = nothing_came n; says = refl; kept = refl }
 
 pub fault_got : (r : ReplyReading) (came : List ℕ) (ended : Bool) (reason : BadWhy) → Stands r came ended → r.stage ≡ stage.Bad reason
     → Got r.need came ended (fault_outcome reason)

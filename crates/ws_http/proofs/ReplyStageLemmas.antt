@@ -12,20 +12,18 @@ use Rattle.ws_http.specs.declared.extent.Extent.{Extent}
 use Rattle.ws_http.specs.declared.extent.Extent.TheVariants as extent
 use Rattle.ws_http.specs.declared.chunk.Line.{Line}
 use Rattle.ws_http.specs.declared.chunk.Next.{Next}
-use Rattle.ws_http.specs.declared.chunk.Next.TheVariants as next
+use Rattle.ws_http.specs.declared.flow.Point.{Point}
 use Rattle.ws_http.specs.declared.reply_head.FinalHead.{FinalHead}
-use Rattle.ws_http.specs.declared.reply_data.DataEnd.TheVariants as end
 use Rattle.ws_http.specs.declared.reply_stage.ReplyStage.{ReplyStage}
 use Rattle.ws_http.specs.declared.reply_stage.ReplyStage.TheVariants as stage
-use Rattle.ws_http.specs.Chunks.{After, LineNext, chunk_data, print_chunks}
+use Rattle.ws_http.specs.Chunks.{After, LineNext, chunk_data}
 use Rattle.ws_http.specs.ResponseFields.{kept_of, reply_of}
 use Rattle.ws_http.specs.Responses.{Verdict, unfinished, headed, lasting, whole, bad, Front, partial, wrong, final, IsFront, FrontSays, FinalSays, BodySays, ChunksEnd, fixed_verdict, is_over, raw_limit, Behind, IsResponse}
-use Rattle.ws_http.specs.ResponseStages.{room_of, is_status, front, window, extent_by, HasInterims, HasFinal, Judged, Ready, is_last}
-use Rattle.ws_http.specs.ResponseData.{StopsAt, IsDataEnd}
+use Rattle.ws_http.specs.ResponseStages.{room_of, is_status, is_chunked, front, extent_by, HasInterims, HasFinal, HasBegun, Reaches, Judged, Ready, is_last}
+use Rattle.ws_http.specs.ResponseData.{StopsAt}
 use Rattle.ws_http.specs.ResponseHeadsEnd.{IsHeadsEnd}
 use Rattle.ws_http.specs.declared.reply_head.HeadsEnd.TheVariants as heads
-use Rattle.ws_http.proofs.StageLemmas.{front_same, content_same, passed, or_true, or_false}
-use Rattle.ws_http.proofs.ReplyLemmas.{kept_twice, kept_short}
+use Rattle.ws_http.proofs.StageLemmas.{front_same, content_same, passed}
 
 room_least : (n : Need) → 16384 ≤ room_of n
 room_least need.Status = omega arith
@@ -101,6 +99,56 @@ status_judged need.Full raw body over f h is x bytes e t = absurd (cc)
 pub unsound_judged : (n : Need) (raw body : List ℕ) (over : Bool) (f : FinalHead) (h : ResponseHead) → is_status n ≡ false
     → HasFinal (front raw) f h → extent_by h ≡ None → Judged n raw over body (stage.Bad why.Framing)
 unsound_judged n raw body over f h asks x ex bytes e t = (bad why.Framing, by_body n raw bytes f h None (bad why.Framing) e x asks ex refl, refl)
+
+-- ---- where no chunked body begins
+
+pub plain_begun : (n : Need) (raw : List ℕ) (s : ReplyStage) → is_chunked s ≡ false → HasBegun n raw s
+plain_begun n raw (stage.Head at) e = tt
+plain_begun n raw (stage.Fixed f total) e = tt
+plain_begun n raw (stage.Lasting f) e = tt
+plain_begun n raw (stage.Chunked f p) e = absurd (cc)
+plain_begun n raw (stage.Whole f total chunked) e = tt
+plain_begun n raw (stage.Bad reason) e = tt
+plain_begun n raw stage.NoMemory e = tt
+
+pub plain_reaches : (x : List ℕ) (at : ℕ) (s : ReplyStage) → is_chunked s ≡ false → Reaches x at s
+plain_reaches x at (stage.Head to) e = tt
+plain_reaches x at (stage.Fixed f total) e = tt
+plain_reaches x at (stage.Lasting f) e = tt
+plain_reaches x at (stage.Chunked f p) e = absurd (cc)
+plain_reaches x at (stage.Whole f total chunked) e = tt
+plain_reaches x at (stage.Bad reason) e = tt
+plain_reaches x at stage.NoMemory e = tt
+
+pub either_plain : (b : Bool) (x y r : ReplyStage) → is_chunked x ≡ false → is_chunked y ≡ false → r ≡ cond b x y → is_chunked r ≡ false
+either_plain true x y r p q e = ap is_chunked e ∙ p
+either_plain false x y r p q e = ap is_chunked e ∙ q
+
+pub unchunked : (s : ReplyStage) → ((f : FinalHead) (p : Point) → s ≡ stage.Chunked f p → ⊥) → is_chunked s ≡ false
+unchunked (stage.Head at) not = refl
+unchunked (stage.Fixed f total) not = refl
+unchunked (stage.Lasting f) not = refl
+unchunked (stage.Chunked f p) not = absurd (not f p refl)
+unchunked (stage.Whole f total chunked) not = refl
+unchunked (stage.Bad reason) not = refl
+unchunked stage.NoMemory not = refl
+
+pub filled : (room : ℕ) (raw all : List ℕ) → raw ≡ take room all → nat_lt room (length all) ≡ true → length raw ≡ room
+filled room raw all e t =
+    let past : room < length all = grind (arith, nat_tests, t) in
+    omega (arith, ap length e, length-take room all, past)
+
+pub fixed_ready : (n : Need) (raw body : List ℕ) (f : FinalHead) (total : ℕ) (b : Bool) (r : ReplyStage) → Ready n raw body (stage.Fixed f total)
+    → nat_le total (length raw) ≡ b → r ≡ cond b (stage.Whole f total false) (stage.Fixed f total) → Ready n raw body r
+fixed_ready n raw body f total true r k t e =
+    subst (λ (s : ReplyStage). Ready n raw body s) (sym e)
+    (k.0, k.2, omega (arith, k.4), λ _. grind (arith, nat_tests, t), λ no. absurd (cc))
+fixed_ready n raw body f total false r k t e = subst (λ (s : ReplyStage). Ready n raw body s) (sym e) k
+
+pub lasting_ready : (n : Need) (raw body : List ℕ) (f : FinalHead) (b : Bool) (r : ReplyStage) → Ready n raw body (stage.Lasting f)
+    → r ≡ cond b (stage.Bad why.TooLong) (stage.Lasting f) → Ready n raw body r
+lasting_ready n raw body f true r k e = subst (λ (s : ReplyStage). Ready n raw body s) (sym e) tt
+lasting_ready n raw body f false r k e = subst (λ (s : ReplyStage). Ready n raw body s) (sym e) k
 
 -- ---- a declared length
 
@@ -227,87 +275,27 @@ reply_kept need.Status h content = refl
 reply_kept need.Short h content = ap (λ (t : List ℕ). reply_of need.Full h t) (take-take 41 41 content (omega arith))
 reply_kept need.Full h content = refl
 
-past_by : (room start : ℕ) (raw bytes : List ℕ) (over : Bool) → room ≡ 8404992 → start ≤ 16384 → take room bytes ≡ raw
-    → nat_lt room (length bytes) ≡ over
-    → nat_lt raw_limit (length (drop start bytes)) ≡ (nat_lt raw_limit (length (drop start raw)) || over)
-past_by room start raw bytes true big near e t =
-    let past : room < length bytes = grind (arith, nat_tests, t) in
-    let long : raw_limit < length (drop start bytes) = omega (arith, past, big, near, length-drop start bytes) in
-    let b : nat_lt raw_limit (length (drop start bytes)) ≡ true = grind (arith, nat_tests, long) in
-    b ∙ sym (or_true (nat_lt raw_limit (length (drop start raw))))
-past_by room start raw bytes false big near e t =
-    let fits : length bytes ≤ room = grind (arith, nat_tests, t) in
-    let same : bytes ≡ raw = sym (take_all room bytes fits) ∙ e in
-    ap (λ (x : List ℕ). nat_lt raw_limit (length (drop start x))) same ∙ sym (or_false (nat_lt raw_limit (length (drop start raw))))
-
-module _ (n : Need) (raw body : List ℕ) (over : Bool) (f : FinalHead) (h : ResponseHead) (asks : is_status n ≡ false)
-    (x : HasFinal (front raw) f h) (ex : extent_by h ≡ Some extent.Chunked) where
-  chunked : (bytes : List ℕ) (e : take (room_of n) bytes ≡ raw) (v : Verdict) (place size : ℕ) (heavy : Bool) (l : Line)
-      (s : StopsAt n (window raw f.start) body place size heavy l)
-      → MatchBool heavy (v ≡ bad why.TooLong)
-      ((k : Next) × LineNext (drop place (window raw f.start)) l k × ChunksEnd n f.start h bytes s.read.read.chunks k v)
-      → IsResponse n bytes v
-  chunked bytes e v place size heavy l s says =
-      let near = (start_small raw f h x).0 in
-      let w = window raw f.start in
-      let rest = drop place w in
-      let chunks = s.read.read.chunks in
-      let same : w ≡ take raw_limit (drop f.start bytes) =
-      content_same (room_of n) f.start raw_limit raw bytes e (omega (arith, room_big n asks, near)) in
-      let counted : length (chunk_data chunks) ≡ size = sym (s.read.counted ∙ ap length s.read.read.content) in
-      let heavy_is : is_over (length (chunk_data chunks)) (length rest) l ≡ heavy =
-      ap (λ (k : ℕ). is_over k (length rest) l) counted ∙ s.over_is in
-      by_body n raw bytes f h (Some extent.Chunked) v e x asks ex record {
-        chunks = chunks;
-        rest = rest;
-        line = l;
-        after = subst (λ (t : List ℕ). After t chunks rest) same s.read.read.after;
-        small = omega (arith, s.read.small, ap length s.read.read.content);
-        is = s.is;
-        says = subst (λ (b : Bool). MatchBool b (v ≡ bad why.TooLong) ((k : Next) × LineNext rest l k × ChunksEnd n f.start h bytes chunks k v))
-            (sym heavy_is) says;
-      }
-
-  pub over_judged : IsDataEnd n (window raw f.start) body end.Over → Judged n raw over body (stage.Bad why.TooLong)
-  over_judged d bytes e t = (bad why.TooLong, chunked bytes e (bad why.TooLong) d.0 d.1 true d.2 d.3 refl, refl)
-
-  pub chunk_judged : IsDataEnd n (window raw f.start) body end.Wrong → Judged n raw over body (stage.Bad why.Chunk)
-  chunk_judged d bytes e t = (bad why.Chunk, chunked bytes e (bad why.Chunk) d.0 d.1 false d.2 d.3 (next.Wrong, d.4, refl), refl)
-
-  open_is : (bytes : List ℕ) (b : Bool) (place size : ℕ) → IsDataEnd n (window raw f.start) body (end.Open place size) → take (room_of n) bytes ≡ raw
-      → nat_lt (room_of n) (length bytes) ≡ over → (nat_lt raw_limit (length (drop f.start raw)) || over) ≡ b
-      → IsResponse n bytes (cond b (bad why.TooLong) headed)
-  open_is bytes b place size d e t past =
-      let near = (start_small raw f h x).0 in
-      let p = past_by (room_of n) f.start raw bytes over (room_big n asks) near e t ∙ past in
-      chunked bytes e (cond b (bad why.TooLong) headed) place size false d.0 d.1
-      (next.Open, d.2, sym (ap (λ (c : Bool). cond c (bad why.TooLong) headed) p))
-
-  pub past_judged : (place size : ℕ) → IsDataEnd n (window raw f.start) body (end.Open place size)
-      → (nat_lt raw_limit (length (drop f.start raw)) || over) ≡ true → Judged n raw over body (stage.Bad why.TooLong)
-  past_judged place size d past bytes e t = (bad why.TooLong, open_is bytes true place size d e t past, refl)
-
-  pub open_judged : (place size : ℕ) → IsDataEnd n (window raw f.start) body (end.Open place size)
-      → (nat_lt raw_limit (length (drop f.start raw)) || over) ≡ false → Judged n raw over body (stage.Chunked f place size)
-  open_judged place size d past bytes e t = (headed, open_is bytes false place size d e t past, refl)
-
-  pub last_judged : (total : ℕ) → IsDataEnd n (window raw f.start) body (end.Last total) → Judged n raw over body (stage.Whole f (f.start + total) true)
-  last_judged total d bytes e t =
-      let s = d.4 in
-      let chunks = s.read.read.chunks in
-      let sum : f.start + total ≡ f.start + length (print_chunks chunks) + d.2 = omega (arith, s.read.read.place, d.6) in
-      let content = ap (λ (t : List ℕ). reply_of n h t) s.read.kept ∙ reply_kept n h s.read.content
-      ∙ ap (λ (t : List ℕ). reply_of n h t) s.read.read.content in (
-        whole (f.start + total) (reply_of n h body),
-        chunked bytes e (whole (f.start + total) (reply_of n h body)) d.0 d.1 false d.3 s
-            (next.Last d.2, d.5, λ i. whole (sum i) (content i)),
-        (h, x, refl),
-      )
-
-  pub last_ready : (total : ℕ) → IsDataEnd n (window raw f.start) body (end.Last total)
-      → Ready n raw body (stage.Whole f (f.start + total) true) × (length body ≤ body_limit)
-  last_ready total d =
-      let r = d.4.read in (
-        (h, x, omega arith, λ w. absurd (cc), λ _. ap (λ (t : List ℕ). kept_of n t) r.kept ∙ kept_twice n r.content ∙ sym r.kept),
-        omega (arith, ap length r.kept, kept_short n r.content, r.small),
-      )
+-- a verdict on a chunked body, whose first bytes are the window
+pub chunked_is : (n : Need) (bytes : List ℕ) (f : FinalHead) (h : ResponseHead) → is_status n ≡ false → HasFinal (front bytes) f h
+    → extent_by h ≡ Some extent.Chunked → (kept w : List ℕ) → w ≡ take raw_limit (drop f.start bytes)
+    → (v : Verdict) (place size : ℕ) (heavy : Bool) (l : Line) (s : StopsAt n w kept place size heavy l)
+    → MatchBool heavy (v ≡ bad why.TooLong)
+    ((k : Next) × LineNext (drop place w) l k × ChunksEnd n f.start h bytes s.read.read.chunks k v)
+    → IsResponse n bytes v
+chunked_is n bytes f h asks x ex kept w same v place size heavy l s says =
+    let rest = drop place w in
+    let chunks = s.read.read.chunks in
+    let here = subst (λ (t : List ℕ). HasFinal t f h) (sym (front_same (room_of n) (take (room_of n) bytes) bytes (room_least n) refl)) x in
+    let counted : length (chunk_data chunks) ≡ size = sym (s.read.counted ∙ ap length s.read.read.content) in
+    let heavy_is : is_over (length (chunk_data chunks)) (length rest) l ≡ heavy =
+    ap (λ (k : ℕ). is_over k (length rest) l) counted ∙ s.over_is in
+    by_body n (take (room_of n) bytes) bytes f h (Some extent.Chunked) v refl here asks ex record {
+      chunks = chunks;
+      rest = rest;
+      line = l;
+      after = subst (λ (t : List ℕ). After t chunks rest) same s.read.read.after;
+      small = omega (arith, s.read.small, ap length s.read.read.content);
+      is = s.is;
+      says = subst (λ (b : Bool). MatchBool b (v ≡ bad why.TooLong) ((k : Next) × LineNext rest l k × ChunksEnd n f.start h bytes chunks k v))
+          (sym heavy_is) says;
+    }

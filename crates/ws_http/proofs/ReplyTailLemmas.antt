@@ -14,9 +14,10 @@ use Rattle.ws_http.specs.declared.reply_stage.ReplyStage.{ReplyStage}
 use Rattle.ws_http.specs.declared.reply_stage.ReplyStage.TheVariants as stage
 use Rattle.ws_http.specs.ResponseFields.{reply_of}
 use Rattle.ws_http.specs.Responses.{Verdict, Makes, Got, closed}
-use Rattle.ws_http.specs.ResponseStages.{Ready, Says, Split, IsSplit, HasFinal, front, is_apart, apart_from, is_full, is_status, is_last, is_starved, content_of, kept_content, stage_closed, ReplyReading, Stands}
+use Rattle.ws_http.specs.ResponseStages.{Ready, Says, Split, IsSplit, HasFinal, front, is_apart, apart_from, is_full, is_status, is_last, is_chunked, is_starved, content_of, kept_content, stage_closed, ReplyReading, Stands}
 use Rattle.ws_http.proofs.ReaderLemmas.{front_more}
 use Rattle.ws_http.proofs.ReplyStageLemmas.{start_small}
+use Rattle.ws_http.proofs.ReplyReaderLemmas.{is_plain}
 
 -- nothing stands behind
 pub alone : (raw tail : List ℕ) → tail ≡ [] → raw ++ tail ≡ raw
@@ -36,7 +37,7 @@ pub apart_full : (n : Need) (s : ReplyStage) (start : ℕ) → apart_from n s �
 apart_full n (stage.Head at) start e = absurd (cc)
 apart_full n (stage.Fixed f total) start e = (some_by (is_full n) f.start start e).0
 apart_full n (stage.Lasting f) start e = (some_by (is_full n) f.start start e).0
-apart_full n (stage.Chunked f place size) start e = absurd (cc)
+apart_full n (stage.Chunked f p) start e = absurd (cc)
 apart_full n (stage.Whole f total true) start e = absurd (cc)
 apart_full n (stage.Whole f total false) start e = (some_by (is_full n) f.start start e).0
 apart_full n (stage.Bad reason) start e = absurd (cc)
@@ -48,7 +49,7 @@ apart_inside n raw body (stage.Fixed f total) start e r =
     let w = some_by (is_full n) f.start start e in omega (arith, w.1, (start_small raw f r.0 r.2).1)
 apart_inside n raw body (stage.Lasting f) start e r =
     let w = some_by (is_full n) f.start start e in omega (arith, w.1, (start_small raw f r.0 r.1).1)
-apart_inside n raw body (stage.Chunked f place size) start e r = absurd (cc)
+apart_inside n raw body (stage.Chunked f p) start e r = absurd (cc)
 apart_inside n raw body (stage.Whole f total true) start e r = absurd (cc)
 apart_inside n raw body (stage.Whole f total false) start e r =
     let w = some_by (is_full n) f.start start e in omega (arith, w.1, (start_small raw f r.0 r.1).1)
@@ -70,7 +71,7 @@ pub cut_split : (n : Need) (raw tail : List ℕ) (s : ReplyStage) (start : ℕ) 
 cut_split n raw tail (stage.Head at) start e l = absurd (cc)
 cut_split n raw tail (stage.Fixed f total) start e l = split_some n f.start start raw tail e l
 cut_split n raw tail (stage.Lasting f) start e l = split_some n f.start start raw tail e l
-cut_split n raw tail (stage.Chunked f place size) start e l = absurd (cc)
+cut_split n raw tail (stage.Chunked f p) start e l = absurd (cc)
 cut_split n raw tail (stage.Whole f total true) start e l = absurd (cc)
 cut_split n raw tail (stage.Whole f total false) start e l = split_some n f.start start raw tail e l
 cut_split n raw tail (stage.Bad reason) start e l = tt
@@ -81,7 +82,7 @@ pub uncut_split : (n : Need) (raw tail : List ℕ) (s : ReplyStage) → apart_fr
 uncut_split n raw tail (stage.Head at) e empty = empty
 uncut_split n raw tail (stage.Fixed f total) e empty = split_none n f.start raw tail e empty
 uncut_split n raw tail (stage.Lasting f) e empty = split_none n f.start raw tail e empty
-uncut_split n raw tail (stage.Chunked f place size) e empty = empty
+uncut_split n raw tail (stage.Chunked f p) e empty = empty
 uncut_split n raw tail (stage.Whole f total true) e empty = empty
 uncut_split n raw tail (stage.Whole f total false) e empty = split_none n f.start raw tail e empty
 uncut_split n raw tail (stage.Bad reason) e empty = tt
@@ -96,7 +97,7 @@ pub together : (n : Need) (raw tail : List ℕ) (s : ReplyStage) → is_last s �
 together n raw tail (stage.Head at) live e w = w
 together n raw tail (stage.Fixed f total) live e w = empty_by (is_full n) f.start raw tail e w
 together n raw tail (stage.Lasting f) live e w = empty_by (is_full n) f.start raw tail e w
-together n raw tail (stage.Chunked f place size) live e w = w
+together n raw tail (stage.Chunked f p) live e w = w
 together n raw tail (stage.Whole f total chunked) live e w = absurd (cc)
 together n raw tail (stage.Bad reason) live e w = absurd (cc)
 together n raw tail stage.NoMemory live e w = absurd (cc)
@@ -114,7 +115,7 @@ pub split_more : (n : Need) (raw tail more : List ℕ) (s : ReplyStage) → is_a
 split_more n raw tail more (stage.Head at) e w = absurd (cc)
 split_more n raw tail more (stage.Fixed f total) e w = split_full n f.start raw tail more e w
 split_more n raw tail more (stage.Lasting f) e w = split_full n f.start raw tail more e w
-split_more n raw tail more (stage.Chunked f place size) e w = absurd (cc)
+split_more n raw tail more (stage.Chunked f p) e w = absurd (cc)
 split_more n raw tail more (stage.Whole f total chunked) e w = absurd (cc)
 split_more n raw tail more (stage.Bad reason) e w = absurd (cc)
 split_more n raw tail more stage.NoMemory e w = absurd (cc)
@@ -123,17 +124,35 @@ pub apart_live : (n : Need) (s : ReplyStage) → is_apart n s ≡ true → (is_f
 apart_live n (stage.Head at) e = absurd (cc)
 apart_live n (stage.Fixed f total) e = (e, refl)
 apart_live n (stage.Lasting f) e = (e, refl)
-apart_live n (stage.Chunked f place size) e = absurd (cc)
+apart_live n (stage.Chunked f p) e = absurd (cc)
 apart_live n (stage.Whole f total chunked) e = absurd (cc)
 apart_live n (stage.Bad reason) e = absurd (cc)
 apart_live n stage.NoMemory e = absurd (cc)
+
+pub apart_plain : (n : Need) (s : ReplyStage) → is_apart n s ≡ true → is_plain s ≡ true
+apart_plain n (stage.Head at) e = absurd (cc)
+apart_plain n (stage.Fixed f total) e = refl
+apart_plain n (stage.Lasting f) e = refl
+apart_plain n (stage.Chunked f p) e = absurd (cc)
+apart_plain n (stage.Whole f total chunked) e = absurd (cc)
+apart_plain n (stage.Bad reason) e = absurd (cc)
+apart_plain n stage.NoMemory e = absurd (cc)
+
+pub apart_unchunked : (n : Need) (s : ReplyStage) → is_apart n s ≡ true → is_chunked s ≡ false
+apart_unchunked n (stage.Head at) e = refl
+apart_unchunked n (stage.Fixed f total) e = refl
+apart_unchunked n (stage.Lasting f) e = refl
+apart_unchunked n (stage.Chunked f p) e = absurd (cc)
+apart_unchunked n (stage.Whole f total chunked) e = refl
+apart_unchunked n (stage.Bad reason) e = refl
+apart_unchunked n stage.NoMemory e = refl
 
 pub closed_split : (n : Need) (raw tail : List ℕ) (b : Bool) (came : ℕ) (s : ReplyStage) → IsSplit n raw tail s → IsSplit n raw tail (stage_closed b came s)
 closed_split n raw tail false came s w = w
 closed_split n raw tail true came (stage.Head at) w = tt
 closed_split n raw tail true came (stage.Fixed f total) w = tt
 closed_split n raw tail true came (stage.Lasting f) w = w
-closed_split n raw tail true came (stage.Chunked f place size) w = tt
+closed_split n raw tail true came (stage.Chunked f p) w = tt
 closed_split n raw tail true came (stage.Whole f total chunked) w = w
 closed_split n raw tail true came (stage.Bad reason) w = tt
 closed_split n raw tail true came stage.NoMemory w = tt
@@ -144,7 +163,7 @@ pub either : (P : ReplyStage → Type 0) (full : Bool) (s new : ReplyStage) → 
 either P full (stage.Head at) new none w p = subst P (sym w) p
 either P full (stage.Fixed f total) new none w p = subst P (sym w) p
 either P full (stage.Lasting f) new none w p = subst P (sym w) p
-either P full (stage.Chunked f place size) new none w p = subst P (sym w) p
+either P full (stage.Chunked f q) new none w p = subst P (sym w) p
 either P full (stage.Whole f total chunked) new none w p = subst P (sym w) p
 either P full (stage.Bad reason) new none w p = subst P (sym w) p
 either P full stage.NoMemory new none w p = none w

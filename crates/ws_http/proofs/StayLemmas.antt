@@ -53,7 +53,7 @@ end_one : (a : Bool) (n : Next) → n ≡ cond a next.Open next.Wrong → IsLast
 end_one true n e last = absurd (not_open n e last)
 end_one false n e last = (refl, e)
 
-end_more : (x z : List ℕ) (len size : ℕ) (n : Next) → IsLast n → n ≡ end_next len size x → n ≡ end_next len size (x ++ z)
+pub end_more : (x z : List ℕ) (len size : ℕ) (n : Next) → IsLast n → n ≡ end_next len size x → n ≡ end_next len size (x ++ z)
 end_more [] z len size n last e = absurd (not_open n e last)
 end_more (a ∷ []) [] len size n last e = e
 end_more (a ∷ []) (b ∷ z) len size n last e =

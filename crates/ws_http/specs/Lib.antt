@@ -8,6 +8,7 @@ pub mod Pieces
 pub mod ResponseFields
 pub mod Responses
 pub mod ResponseHeads
+pub mod Flow
 pub mod ResponseStages
 pub mod ResponseData
 pub mod ResponseHeadsEnd

@@ -1,11 +1,17 @@
 -- Where the reading of a chunked body stops.
-use Rattle.std.specs.Prelude.{◌≡◌, ℕ, ◌+◌, ◌-◌, ◌≤◌, Bool, true, false, List, length, take, drop}
+use Rattle.std.specs.Prelude.{◌≡◌, ℕ, ◌+◌, ◌-◌, ◌<◌, ◌≤◌, Bool, true, false, List, ◌++◌, length, take, drop, ⊤}
 use Rattle.ws_http.specs.declared.fed.Need.{Need}
 use Rattle.ws_http.specs.declared.fed.Need.TheVariants as need
 use Rattle.ws_http.specs.declared.chunk.Line.{Line}
 use Rattle.ws_http.specs.declared.chunk.Next.TheVariants as next
-use Rattle.ws_http.specs.declared.reply_data.DataEnd.{DataEnd}
-use Rattle.ws_http.specs.declared.reply_data.DataEnd.TheVariants as end
+use Rattle.ws_http.specs.declared.flow.DataEnd.{DataEnd}
+use Rattle.ws_http.specs.declared.flow.DataEnd.TheVariants as end
+use Rattle.ws_http.specs.declared.flow.Step.{Step}
+use Rattle.ws_http.specs.declared.flow.Step.TheVariants as step
+use Rattle.ws_http.specs.declared.flow.Place.{Place}
+use Rattle.ws_http.specs.declared.flow.Point.{Point}
+use Rattle.ws_http.specs.declared.flow.Place.TheVariants as place
+use Rattle.ws_http.specs.Flow.{Flows}
 use Rattle.ws_http.specs.Chunks.{LineIs, LineNext}
 use Rattle.ws_http.specs.Responses.{is_over}
 use Rattle.ws_http.specs.ResponseStages.{HasData, is_full}
@@ -22,14 +28,35 @@ pub record StopsAt (need : Need) (bytes body : List ℕ) (place size : ℕ) (ove
   pub is : LineIs (drop place bytes) l
   pub over_is : is_over size (length (drop place bytes)) l ≡ over
 
+-- what is held back isn't whole
+abbrev pub IsIdle : List ℕ → Place → Type 0
+IsIdle held place.Line = (l : Line) × LineIs held l × LineNext held l next.Open
+IsIdle held (place.Data left) = ⊤
+
 -- where the reading of a chunked body stops
-abbrev pub IsDataEnd : Need → List ℕ → List ℕ → DataEnd → Type 0
-IsDataEnd need bytes body (end.Open place size) =
-    (l : Line) × StopsAt need bytes body place size false l × LineNext (drop place bytes) l next.Open
-IsDataEnd need bytes body end.Over = (place : ℕ) × (size : ℕ) × (l : Line) × StopsAt need bytes body place size true l
-IsDataEnd need bytes body end.Wrong =
-    (place : ℕ) × (size : ℕ) × (l : Line) × StopsAt need bytes body place size false l × LineNext (drop place bytes) l next.Wrong
-IsDataEnd need bytes body (end.Last total) =
-    (place : ℕ) × (size : ℕ) × (used : ℕ) × (l : Line) × StopsAt need bytes body place size false l
-    × LineNext (drop place bytes) l (next.Last used) × (total ≡ place + used) × (total ≤ length bytes)
-IsDataEnd need bytes body end.NoMemory = is_full need ≡ true
+abbrev pub IsDataEnd : Need → List ℕ → List ℕ → List ℕ → DataEnd → Type 0
+IsDataEnd need came held body (end.Open p) = Flows need came held body p × IsIdle held p.place
+IsDataEnd need came held body end.Over =
+    (kept : List ℕ) × (place : ℕ) × (size : ℕ) × (l : Line) × StopsAt need came kept place size true l
+IsDataEnd need came held body end.Wrong =
+    (kept : List ℕ) × (place : ℕ) × (size : ℕ) × (l : Line) × StopsAt need came kept place size false l
+    × LineNext (drop place came) l next.Wrong
+IsDataEnd need came held body (end.Last total) =
+    (place : ℕ) × (size : ℕ) × (used : ℕ) × (l : Line) × StopsAt need came body place size false l
+    × LineNext (drop place came) l (next.Last used) × (total ≡ place + used) × (total ≤ length came)
+IsDataEnd need came held body end.NoMemory = is_full need ≡ true
+
+-- what a step over a piece comes to
+abbrev pub IsStep : Need → List ℕ → List ℕ → List ℕ → List ℕ → Step → Type 0
+IsStep need came piece held body (step.On p used) = Flows need (came ++ take used piece) held body p
+IsStep need came piece held body (step.Stop e) = IsDataEnd need (came ++ piece) held body e
+
+-- a step that goes on reads some bytes of the piece, and counts them
+abbrev pub Advances : List ℕ → Point → Step → Type 0
+Advances piece from (step.On p used) = (0 < used) × (used ≤ length piece) × (p.count ≡ from.count + used)
+Advances piece from (step.Stop e) = ⊤
+
+-- no more bytes are kept than were, and those of the piece that were read
+abbrev pub IsShort : ℕ → ℕ → ℕ → Step → Type 0
+IsShort old piece new (step.On p used) = new ≤ old + used
+IsShort old piece new (step.Stop e) = new ≤ old + piece

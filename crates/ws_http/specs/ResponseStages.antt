@@ -1,6 +1,6 @@
 -- What a response reader keeps between two pieces, and what it stands for.
 use Rattle.std.specs.Prelude.{◌≡◌, ℕ, ◌+◌, ◌-◌, ◌≤◌, Bool, true, false, if◌then◌else◌, nat_lt, nat_le, List, [], ◌++◌, length, take, drop, Option, Some, None, MatchBool, ⊤}
-use Rattle.httparse.specs.Grammar.{ResponseHead, print_response, status_code, ReadsResponse}
+use Rattle.httparse.specs.Grammar.{ResponseHead, print_response, status_code, ReadsResponse, HasNoResponse}
 use Rattle.ws_model.specs.Legal.{body_limit}
 use Rattle.ws_http.specs.declared.fed.BadWhy.TheVariants as why
 use Rattle.ws_http.specs.declared.fed.Fed.{Fed}
@@ -12,7 +12,9 @@ use Rattle.ws_http.specs.declared.extent.Extent.TheVariants as extent
 use Rattle.ws_http.specs.declared.reply_head.FinalHead.{FinalHead}
 use Rattle.ws_http.specs.declared.reply_stage.ReplyStage.{ReplyStage}
 use Rattle.ws_http.specs.declared.reply_stage.ReplyStage.TheVariants as stage
+use Rattle.ws_http.specs.declared.flow.Point.{Point}
 use Rattle.ws_http.specs.RequestStages.{HasChunks}
+use Rattle.ws_http.specs.Flow.{Flows}
 use Rattle.ws_http.specs.Fields.{fields_of}
 use Rattle.ws_http.specs.ResponseFields.{response_extent, reply_of, kept_of}
 use Rattle.ws_http.specs.Responses.{Verdict, unfinished, headed, lasting, whole, bad, closed, raw_limit, Behind, print_heads, IsResponse}
@@ -55,11 +57,7 @@ pub record HasFinal (front : List ℕ) (f : FinalHead) (h : ResponseHead) : Type
 abbrev pub front : List ℕ → List ℕ
 front raw = take 16384 raw
 
--- the bytes of a chunked body that are looked at
-abbrev pub window : List ℕ → ℕ → List ℕ
-window raw start = take raw_limit (drop start raw)
-
--- whole chunks stand in the window up to a place, with so much data, of which the part that is asked for is kept
+-- whole chunks stand in the bytes up to a place, with so much data, of which the part that is asked for is kept
 pub record HasData (need : Need) (bytes body : List ℕ) (place size : ℕ) : Type 0 where
   pub content : List ℕ
   pub read : HasChunks bytes content 0 place
@@ -75,17 +73,31 @@ extent_by h = response_extent (status_code h) (fields_of h.fields)
 abbrev pub content_of : List ℕ → List ℕ → ℕ → ℕ → Bool → List ℕ
 content_of raw body start total chunked = if chunked then body else take (total - start) (drop start raw)
 
+-- no whole final head stands in the bytes behind the interim ones, and they are no more than a head's
+pub record Unled (raw : List ℕ) (at : ℕ) : Type 0 where
+  pub none : HasNoResponse (drop at (front raw))
+  pub short : length raw ≤ 16384
+
+-- The bytes that came are the heads and a chunked body. The heads are kept, and of the body what is held back.
+pub record Chunking (need : Need) (raw body : List ℕ) (f : FinalHead) (p : Point) (came : List ℕ) : Type 0 where
+  pub head : ResponseHead
+  pub final : HasFinal (front came) f head
+  pub extent : extent_by head ≡ Some extent.Chunked
+  pub asks : is_status need ≡ false
+  pub heads : take f.start raw ≡ take f.start came
+  pub inside : f.start ≤ length raw
+  pub flows : Flows need (drop f.start came) (drop f.start raw) body p
+  pub limit : p.count ≤ raw_limit
+
 -- what a stage says of the bytes is so
 abbrev pub Ready : Need → List ℕ → List ℕ → ReplyStage → Type 0
-Ready need raw body (stage.Head at) = (body ≡ []) × HasInterims (front raw) at
+Ready need raw body (stage.Head at) = (body ≡ []) × HasInterims (front raw) at × Unled raw at
 Ready need raw body (stage.Fixed f total) =
     (h : ResponseHead) × (n : ℕ) × HasFinal (front raw) f h × (extent_by h ≡ Some (extent.Fixed n))
     × (total ≡ f.start + n) × (n ≤ body_limit) × (is_status need ≡ false)
 Ready need raw body (stage.Lasting f) =
     (h : ResponseHead) × HasFinal (front raw) f h × (extent_by h ≡ Some extent.Lasting) × (is_status need ≡ false)
-Ready need raw body (stage.Chunked f place size) =
-    (h : ResponseHead) × HasFinal (front raw) f h × (extent_by h ≡ Some extent.Chunked) × (is_status need ≡ false)
-    × HasData need (window raw f.start) body place size
+Ready need raw body (stage.Chunked f p) = (came : List ℕ) × Chunking need raw body f p came
 Ready need raw body (stage.Whole f total chunked) =
     (h : ResponseHead) × HasFinal (front raw) f h × (f.start ≤ total) × (chunked ≡ false → total ≤ length raw)
     × (chunked ≡ true → kept_of need body ≡ body)
@@ -97,7 +109,7 @@ abbrev pub Small : List ℕ → List ℕ → ReplyStage → Type 0
 Small raw body (stage.Head at) = ⊤
 Small raw body (stage.Fixed f total) = ⊤
 Small raw body (stage.Lasting f) = length (drop f.start raw) ≤ body_limit
-Small raw body (stage.Chunked f place size) = ⊤
+Small raw body (stage.Chunked f p) = ⊤
 Small raw body (stage.Whole f total chunked) = length (content_of raw body f.start total chunked) ≤ body_limit
 Small raw body (stage.Bad reason) = ⊤
 Small raw body stage.NoMemory = ⊤
@@ -108,7 +120,7 @@ Says need raw body (stage.Head at) v = v ≡ unfinished
 Says need raw body (stage.Fixed f total) v = v ≡ headed
 Says need raw body (stage.Lasting f) v =
     (h : ResponseHead) × HasFinal (front raw) f h × (v ≡ lasting (reply_of need h (drop f.start raw)))
-Says need raw body (stage.Chunked f place size) v = v ≡ headed
+Says need raw body (stage.Chunked f p) v = v ≡ headed
 Says need raw body (stage.Whole f total chunked) v =
     (h : ResponseHead) × HasFinal (front raw) f h × (v ≡ whole total (reply_of need h (content_of raw body f.start total chunked)))
 Says need raw body (stage.Bad reason) v = v ≡ bad reason
@@ -120,12 +132,70 @@ Judged need raw over body s =
     (bytes : List ℕ) → take (room_of need) bytes ≡ raw → nat_lt (room_of need) (length bytes) ≡ over
     → (v : Verdict) × IsResponse need bytes v × Says need raw body s v
 
+-- whether a chunked body has begun
+abbrev pub is_chunked : ReplyStage → Bool
+is_chunked (stage.Head at) = false
+is_chunked (stage.Fixed f total) = false
+is_chunked (stage.Lasting f) = false
+is_chunked (stage.Chunked f p) = true
+is_chunked (stage.Whole f total chunked) = false
+is_chunked (stage.Bad reason) = false
+is_chunked stage.NoMemory = false
+
+-- where a chunked body begins, its head is so
+abbrev pub HasBegun : Need → List ℕ → ReplyStage → Type 0
+HasBegun need raw (stage.Head at) = ⊤
+HasBegun need raw (stage.Fixed f total) = ⊤
+HasBegun need raw (stage.Lasting f) = ⊤
+HasBegun need raw (stage.Chunked f p) =
+    (h : ResponseHead) × HasFinal (front raw) f h × (extent_by h ≡ Some extent.Chunked) × (is_status need ≡ false)
+HasBegun need raw (stage.Whole f total chunked) = ⊤
+HasBegun need raw (stage.Bad reason) = ⊤
+HasBegun need raw stage.NoMemory = ⊤
+
+-- a head stands at a place, and ends where another one does or before
+pub record HeadWithin (front : List ℕ) (at end : ℕ) : Type 0 where
+  pub head : ResponseHead
+  pub rest : List ℕ
+  pub reads : ReadsResponse (drop at front) head rest
+  pub before : at + length (print_response head) ≤ end
+
+-- where a chunked body begins, a head stands at the place
+abbrev pub Reaches : List ℕ → ℕ → ReplyStage → Type 0
+Reaches front at (stage.Head to) = ⊤
+Reaches front at (stage.Fixed f total) = ⊤
+Reaches front at (stage.Lasting f) = ⊤
+Reaches front at (stage.Chunked f p) = HeadWithin front at f.start
+Reaches front at (stage.Whole f total chunked) = ⊤
+Reaches front at (stage.Bad reason) = ⊤
+Reaches front at stage.NoMemory = ⊤
+
+-- how many bytes came up to a stage
+abbrev pub count_of : List ℕ → ReplyStage → ℕ
+count_of raw (stage.Head at) = length raw
+count_of raw (stage.Fixed f total) = length raw
+count_of raw (stage.Lasting f) = length raw
+count_of raw (stage.Chunked f p) = f.start + p.count
+count_of raw (stage.Whole f total chunked) = length raw
+count_of raw (stage.Bad reason) = length raw
+count_of raw stage.NoMemory = length raw
+
+-- What is kept of the bytes that came: all while the message goes on, but for a chunked body.
+abbrev pub Keeps : Need → List ℕ → List ℕ → ReplyStage → List ℕ → Type 0
+Keeps need raw body (stage.Head at) came = raw ≡ came
+Keeps need raw body (stage.Fixed f total) came = raw ≡ came
+Keeps need raw body (stage.Lasting f) came = raw ≡ came
+Keeps need raw body (stage.Chunked f p) came = Chunking need raw body f p came
+Keeps need raw body (stage.Whole f total chunked) came = ⊤
+Keeps need raw body (stage.Bad reason) came = ⊤
+Keeps need raw body stage.NoMemory came = ⊤
+
 -- whether there was no memory
 abbrev pub is_starved : ReplyStage → Bool
 is_starved (stage.Head at) = false
 is_starved (stage.Fixed f total) = false
 is_starved (stage.Lasting f) = false
-is_starved (stage.Chunked f place size) = false
+is_starved (stage.Chunked f p) = false
 is_starved (stage.Whole f total chunked) = false
 is_starved (stage.Bad reason) = false
 is_starved stage.NoMemory = true
@@ -135,7 +205,7 @@ abbrev pub is_whole : ReplyStage → Bool
 is_whole (stage.Head at) = false
 is_whole (stage.Fixed f total) = false
 is_whole (stage.Lasting f) = false
-is_whole (stage.Chunked f place size) = false
+is_whole (stage.Chunked f p) = false
 is_whole (stage.Whole f total chunked) = true
 is_whole (stage.Bad reason) = false
 is_whole stage.NoMemory = false
@@ -145,7 +215,7 @@ abbrev pub is_last : ReplyStage → Bool
 is_last (stage.Head at) = false
 is_last (stage.Fixed f total) = false
 is_last (stage.Lasting f) = false
-is_last (stage.Chunked f place size) = false
+is_last (stage.Chunked f p) = false
 is_last (stage.Whole f total chunked) = true
 is_last (stage.Bad reason) = true
 is_last stage.NoMemory = true
@@ -155,7 +225,7 @@ abbrev pub stage_at_end : ℕ → ReplyStage → ReplyStage
 stage_at_end came (stage.Head at) = stage.Bad why.Cut
 stage_at_end came (stage.Fixed f total) = stage.Bad why.Cut
 stage_at_end came (stage.Lasting f) = stage.Whole f came false
-stage_at_end came (stage.Chunked f place size) = stage.Bad why.Cut
+stage_at_end came (stage.Chunked f p) = stage.Bad why.Cut
 stage_at_end came (stage.Whole f total chunked) = stage.Whole f total chunked
 stage_at_end came (stage.Bad reason) = stage.Bad reason
 stage_at_end came stage.NoMemory = stage.NoMemory
@@ -171,7 +241,7 @@ abbrev pub said_first : ℕ → ReplyStage → Fed
 said_first before (stage.Head at) = fed.More
 said_first before (stage.Fixed f total) = fed.Head
 said_first before (stage.Lasting f) = fed.Head
-said_first before (stage.Chunked f place size) = fed.Head
+said_first before (stage.Chunked f p) = fed.Head
 said_first before (stage.Whole f total chunked) = fed.Whole (total - before)
 said_first before (stage.Bad reason) = fed.Bad reason
 said_first before stage.NoMemory = fed.NoMemory
@@ -189,7 +259,7 @@ abbrev pub said : ℕ → ReplyStage → ReplyStage → Fed
 said before (stage.Head at) new = said_first before new
 said before (stage.Fixed f total) new = untold (said_first before new)
 said before (stage.Lasting f) new = untold (said_first before new)
-said before (stage.Chunked f place size) new = untold (said_first before new)
+said before (stage.Chunked f p) new = untold (said_first before new)
 said before (stage.Whole f total chunked) new = untold (said_first before new)
 said before (stage.Bad reason) new = untold (said_first before new)
 said before stage.NoMemory new = untold (said_first before new)
@@ -199,7 +269,7 @@ abbrev pub said_again : ReplyStage → Fed
 said_again (stage.Head at) = fed.More
 said_again (stage.Fixed f total) = fed.More
 said_again (stage.Lasting f) = fed.More
-said_again (stage.Chunked f place size) = fed.More
+said_again (stage.Chunked f p) = fed.More
 said_again (stage.Whole f total chunked) = fed.Whole 0
 said_again (stage.Bad reason) = fed.Bad reason
 said_again stage.NoMemory = fed.NoMemory
@@ -212,8 +282,8 @@ TellsReply (fed.Whole used) s = is_whole s ≡ true
 TellsReply (fed.Bad reason) s = s ≡ stage.Bad reason
 TellsReply fed.NoMemory s = s ≡ stage.NoMemory
 
--- What callers see of a reader: what is asked for, the first bytes that came, the part of a chunked body
--- that is kept, and how far they have been read.
+-- What callers see of a reader: what is asked for, the bytes that are kept as they came, the part of the data of a
+-- chunked body that is kept, and how far the message has been read.
 pub record ReplyReading : Type 0 where
   pub need : Need
   pub bytes : List ℕ
@@ -234,7 +304,7 @@ abbrev pub IsSplit : Need → List ℕ → List ℕ → ReplyStage → Type 0
 IsSplit need raw tail (stage.Head at) = tail ≡ []
 IsSplit need raw tail (stage.Fixed f total) = Split need f.start raw tail
 IsSplit need raw tail (stage.Lasting f) = Split need f.start raw tail
-IsSplit need raw tail (stage.Chunked f place size) = tail ≡ []
+IsSplit need raw tail (stage.Chunked f p) = tail ≡ []
 IsSplit need raw tail (stage.Whole f total chunked) = MatchBool chunked (tail ≡ []) (Split need f.start raw tail)
 IsSplit need raw tail (stage.Bad reason) = ⊤
 IsSplit need raw tail stage.NoMemory = ⊤
@@ -244,7 +314,7 @@ abbrev pub is_apart : Need → ReplyStage → Bool
 is_apart need (stage.Head at) = false
 is_apart need (stage.Fixed f total) = is_full need
 is_apart need (stage.Lasting f) = is_full need
-is_apart need (stage.Chunked f place size) = false
+is_apart need (stage.Chunked f p) = false
 is_apart need (stage.Whole f total chunked) = false
 is_apart need (stage.Bad reason) = false
 is_apart need stage.NoMemory = false
@@ -254,7 +324,7 @@ abbrev pub apart_from : Need → ReplyStage → Option ℕ
 apart_from need (stage.Head at) = None
 apart_from need (stage.Fixed f total) = if is_full need then Some f.start else None
 apart_from need (stage.Lasting f) = if is_full need then Some f.start else None
-apart_from need (stage.Chunked f place size) = None
+apart_from need (stage.Chunked f p) = None
 apart_from need (stage.Whole f total chunked) = if chunked then None else (if is_full need then Some f.start else None)
 apart_from need (stage.Bad reason) = None
 apart_from need stage.NoMemory = None
@@ -269,12 +339,13 @@ pub record IsReplyReader (need : Need) (raw tail content : List ℕ) (s : ReplyS
   pub apart : IsSplit need raw tail s
 
 -- The reader was fed these bytes, with the connection's end behind them or not, and stands for the verdict
--- on them. It keeps all of them until the verdict is final.
+-- on them. Until the verdict is final it keeps all of them, but for the chunks of a chunked body, of which it keeps
+-- the data that is asked for and the bytes behind the last whole one.
 pub record Stands (r : ReplyReading) (came : List ℕ) (ended : Bool) : Type 0 where
   pub verdict : Verdict
   pub is : IsResponse r.need came verdict
   pub says : Says r.need r.bytes r.content r.stage (closed ended (length came) verdict)
-  pub kept : is_last r.stage ≡ false → r.bytes ≡ came
+  pub kept : Keeps r.need r.bytes r.content r.stage came
 
 -- Feeding a reader that is at its last stage changes nothing, and says the same again with no byte used. Else
 -- there was no memory, which comes only where everything is asked for; or the reader stands for all bytes

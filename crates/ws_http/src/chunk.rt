@@ -7,6 +7,7 @@ use httparse::spans::{HeaderSpan, parse_headers};
 use httparse::{Error, Status, parse_chunk_size};
 
 /// What stands where a chunk should begin.
+#[derive(Clone, Copy)]
 pub enum Next {
     /// What came can go on to a chunk, or to the end of the body.
     Open,
@@ -73,6 +74,29 @@ pub fn read_line(rest: &[u8]) -> Line
     }
 }
 
+/// What stands behind the data of a chunk with such a line: its CRLF, or the begin of it.
+pub fn line_end(line: usize, size: usize, behind: &[u8]) -> Next
+    ensures { result ≡ end_next line size behind.now }
+{
+    match behind {
+        [] => Next::Open,
+        [first] => {
+            if *first == b'\r' {
+                Next::Open
+            } else {
+                Next::Wrong
+            }
+        }
+        [first, second, ..] => {
+            if *first == b'\r' && *second == b'\n' {
+                Next::Chunk(line, size)
+            } else {
+                Next::Wrong
+            }
+        }
+    }
+}
+
 // The chunk whose line was read: its data and CRLF.
 fn chunk(line: usize, size: usize, after: &[u8]) -> Next
     requires { line + length after.now < 2 ^ 63 }
@@ -81,21 +105,7 @@ fn chunk(line: usize, size: usize, after: &[u8]) -> Next
 {
     match after.get(size..) {
         None => Next::Open,
-        Some([]) => Next::Open,
-        Some([first]) => {
-            if *first == b'\r' {
-                Next::Open
-            } else {
-                Next::Wrong
-            }
-        }
-        Some([first, second, ..]) => {
-            if *first == b'\r' && *second == b'\n' {
-                Next::Chunk(line, size)
-            } else {
-                Next::Wrong
-            }
-        }
+        Some(behind) => line_end(line, size, behind),
     }
 }
 
@@ -113,8 +123,8 @@ fn read_section(front: &[u8]) -> Section
     }
 }
 
-// What stands behind the last chunk's line.
-fn trailer(line: usize, after: &[u8]) -> Next
+/// What stands behind the last chunk's line.
+pub fn trailer(line: usize, after: &[u8]) -> Next
     requires { line + length after.now < 2 ^ 63 }
     ensures value { TrailerNext line after.now result }
     ensures within { NextWithin (line + length after.now) result }

@@ -2,7 +2,7 @@
 ghost use Rattle.std.specs.Prelude.{◌≡◌, ◌≤◌, length};
 ghost use Rattle.ws_http.specs.ResponseHeads.{SeesReply, IsAhead};
 ghost use Rattle.ws_http.specs.ResponseStages.{HasInterims};
-ghost use Rattle.ws_http.specs.ResponseHeadsEnd.{IsHeadsEnd};
+ghost use Rattle.ws_http.specs.ResponseHeadsEnd.{IsHeadsEnd, ReachesEnd};
 
 use crate::code::{is_code, is_interim};
 use crate::extent::{Extent, extent_of};
@@ -92,7 +92,8 @@ pub enum HeadsEnd {
 pub fn read_heads(front: &[u8], from: usize) -> HeadsEnd
     requires short { length front.now ≤ MAX_HEAD }
     requires before { HasInterims front.now from }
-    ensures { IsHeadsEnd front.now result }
+    ensures is { IsHeadsEnd front.now result }
+    ensures reach { ReachesEnd front.now from result }
 {
     let mut at = from;
     'heads: loop {

@@ -2,12 +2,25 @@
 ghost use Rattle.std.specs.Prelude.{◌≡◌, ◌≤◌, ◌<◌, ◌^◌, ◌++◌, length, take, List, ℕ, Bool, [], nat_lt, true, false, OnOk, MatchBool};
 ghost use Rattle.std.specs.Vec.{vec_capacity};
 ghost use Rattle.ws_http.specs.declared.reply_stage.ReplyStage.TheVariants as stage;
-ghost use Rattle.ws_http.specs.ResponseStages.{Ready, Small, Judged, IsSplit, is_apart, apart_from, room_of, is_full, is_last, is_starved};
+ghost use Rattle.ws_http.specs.ResponseStages.{Ready, Small, Judged, IsSplit, Stands, count_of, is_apart, apart_from, room_of, is_full, is_last, is_chunked, is_starved};
 
 use crate::Need;
+use crate::reply_chunks::{begin_chunks, take_chunks};
 use crate::reply_data::grow;
-use crate::reply_stage::{ReplyStage, is_full, read_fixed, read_lasting, room_of, take_piece};
+use crate::reply_stage::{ReplyStage, is_full, read_fixed, read_front, read_lasting, room_of};
 use ws_model::NoMemory;
+
+/// How many bytes came up to this stage.
+pub fn count_of(raw: &[u8], tail: &[u8], stage: ReplyStage) -> usize
+    requires short { length (raw.now ++ tail.now) < 2 ^ 32 }
+    requires fits { count_of (raw.now ++ tail.now) stage < 2 ^ 32 }
+    ensures { result ≡ count_of (raw.now ++ tail.now) stage }
+{
+    match stage {
+        ReplyStage::Chunked(head, point) => head.start + point.count,
+        _ => count(raw, tail),
+    }
+}
 
 /// How many bytes both have.
 pub fn count(raw: &[u8], tail: &[u8]) -> usize
@@ -84,6 +97,7 @@ fn read_apart(raw: &[u8], tail: &[u8], need: Need, from: ReplyStage) -> ReplySta
     ensures ready { (body : List ℕ) → Ready need (raw.now ++ tail.now) body result }
     ensures small { (body : List ℕ) → Small (raw.now ++ tail.now) body result }
     ensures closes { length (raw.now ++ tail.now) ≡ room_of need → is_last result ≡ true }
+    ensures plain { is_chunked result ≡ false }
     ensures split { IsSplit need raw.now tail.now result }
 {
     let came = count(raw, tail);
@@ -112,6 +126,7 @@ fn take_apart(
     ensures ready { (body : List ℕ) → Ready need (raw.now ++ tail.new.items) body result }
     ensures small { (body : List ℕ) → Small (raw.now ++ tail.new.items) body result }
     ensures closes { nat_lt (room_of need) (length ((raw.now ++ tail.old.items) ++ piece.now)) ≡ true → is_last result ≡ true }
+    ensures plain { is_chunked result ≡ false }
     ensures short { length (raw.now ++ tail.new.items) ≤ room_of need }
     ensures split { IsSplit need raw.now tail.new.items result }
 {
@@ -120,6 +135,45 @@ fn take_apart(
     match grow(tail, taken) {
         Err(NoMemory) => ReplyStage::NoMemory,
         Ok(()) => read_apart(raw, tail, need, from),
+    }
+}
+
+// Takes the next piece where no chunked body has begun, and reads on.
+fn take_piece(
+    raw: &mut Vec<u8>,
+    body: &mut Vec<u8>,
+    need: Need,
+    piece: &[u8],
+    from: ReplyStage,
+) -> ReplyStage
+    requires short { length raw.old.items ≤ room_of need }
+    requires kept { is_full need ≡ false → room_of need ≤ vec_capacity raw.old }
+    requires fits { is_full need ≡ false → 41 ≤ vec_capacity body.old }
+    requires open { is_last from ≡ false }
+    requires plain { is_chunked from ≡ false }
+    requires ready { Ready need raw.old.items body.old.items from }
+    ensures stands { is_starved result ≡ false
+        → Stands (record { need = need; bytes = raw.new.items; content = body.new.items; stage = result }) (raw.old.items ++ piece.now) false }
+    ensures ready { Ready need raw.new.items body.new.items result }
+    ensures small { Small raw.new.items body.new.items result }
+    ensures short { length raw.new.items ≤ room_of need }
+    ensures raw_capacity { vec_capacity raw.old ≤ vec_capacity raw.new }
+    ensures body_capacity { vec_capacity body.old ≤ vec_capacity body.new }
+{
+    let before = raw.len();
+    let (taken, left) = piece.split_at((room_of(need) - before).min(piece.len()));
+    if let Err(NoMemory) = grow(raw, taken) {
+        return ReplyStage::NoMemory;
+    }
+    let came = raw.len();
+    match from {
+        ReplyStage::Fixed(head, total) => read_fixed(came, head, total),
+        ReplyStage::Lasting(head) => read_lasting(came, head),
+        ReplyStage::Head(at) => match read_front(raw, need, !left.is_empty(), at) {
+            ReplyStage::Chunked(head, _) => begin_chunks(raw, body, need, head, piece, before),
+            stage => stage,
+        },
+        _ => unreachable!(),
     }
 }
 
@@ -138,13 +192,11 @@ pub fn take_next(
     requires open { is_last from ≡ false }
     requires ready { Ready need (raw.old.items ++ tail.old.items) body.old.items from }
     requires split { IsSplit need raw.old.items tail.old.items from }
-    ensures took { is_starved result ≡ false
-        → raw.new.items ++ tail.new.items ≡ take (room_of need) ((raw.old.items ++ tail.old.items) ++ piece.now) }
-    ensures judged { is_starved result ≡ false → Judged need (raw.new.items ++ tail.new.items)
-        (nat_lt (room_of need) (length ((raw.old.items ++ tail.old.items) ++ piece.now))) body.new.items result }
+    ensures stands { is_starved result ≡ false → (came : List ℕ)
+        → Stands (record { need = need; bytes = raw.old.items ++ tail.old.items; content = body.old.items; stage = from }) came false
+        → Stands (record { need = need; bytes = raw.new.items ++ tail.new.items; content = body.new.items; stage = result }) (came ++ piece.now) false }
     ensures ready { Ready need (raw.new.items ++ tail.new.items) body.new.items result }
     ensures small { Small (raw.new.items ++ tail.new.items) body.new.items result }
-    ensures closes { nat_lt (room_of need) (length ((raw.old.items ++ tail.old.items) ++ piece.now)) ≡ true → is_last result ≡ true }
     ensures short { length (raw.new.items ++ tail.new.items) ≤ room_of need }
     ensures split { IsSplit need raw.new.items tail.new.items result }
     ensures raw_capacity { vec_capacity raw.old ≤ vec_capacity raw.new }
@@ -152,6 +204,9 @@ pub fn take_next(
 {
     if is_apart(need, from) {
         return take_apart(raw, tail, need, piece, from);
+    }
+    if let ReplyStage::Chunked(head, point) = from {
+        return take_chunks(raw, body, need, head, piece, point);
     }
     let new = take_piece(raw, body, need, piece, from);
     part(raw, tail, need, new)

@@ -4,7 +4,7 @@ ghost use Rattle.ws_model.specs.declared.work.Outcome.TheVariants as outcome;
 ghost use Rattle.ws_model.specs.Fit.{is_fit_reply};
 ghost use Rattle.ws_http.specs.Responses.{Got, fault_outcome};
 ghost use Rattle.ws_http.specs.declared.reply_stage.ReplyStage.TheVariants as stage;
-ghost use Rattle.ws_http.specs.ResponseStages.{IsSplit, is_status, is_whole, is_last, kept_content};
+ghost use Rattle.ws_http.specs.ResponseStages.{IsSplit, is_full, is_status, is_whole, is_last, room_of, kept_content};
 
 use crate::head::front_of;
 use crate::reply::build;
@@ -13,7 +13,7 @@ use crate::reply_head::FinalHead;
 use crate::reply_stage::{
     ReplyStage, closed, is_full, is_status, reply_again, reply_told, room_of,
 };
-use crate::reply_tail::{count, take_next};
+use crate::reply_tail::{count, count_of, take_next};
 use crate::{Fed, Need};
 use std::alloc::Global;
 use std::marker::Model;
@@ -27,7 +27,7 @@ use ws_model::{Bytes, NoMemory, Reply};
 pub struct ResponseReader {
     alloc: Global,
     need: Need,
-    /// The bytes that came, up to a body that is kept apart.
+    /// The bytes that came, up to a body that is kept apart; behind the heads of a chunked one what is held back of it.
     raw: Vec<u8>,
     /// The bytes behind the heads, where the whole of a body is asked for that isn't chunked.
     tail: Vec<u8>,
@@ -48,6 +48,20 @@ impl Model for ResponseReader {
 
     ghost invariant = { λ r. IsReplyReader r.need r.raw.items r.tail.items r.body.items r.stage
         (vec_capacity r.raw) (vec_capacity r.body) };
+}
+
+// How much room is made beforehand for the bytes that are kept as they came.
+fn first_room(need: Need) -> usize
+    ensures { is_full need ≡ false → room_of need ≤ result }
+{
+    if is_full(need) { 0 } else { room_of(need) }
+}
+
+// How much room is made beforehand for the data of a chunked body.
+fn data_room(need: Need) -> usize
+    ensures { is_full need ≡ false → 41 ≤ result }
+{
+    if is_full(need) { 0 } else { SHORT }
 }
 
 // The part of the body that is kept. A whole body is given away as it is kept; of a short one the first bytes are copied.
@@ -91,13 +105,8 @@ impl ResponseReader {
         ensures fresh { IfOk result (λ r. r ≡ fresh_reply need) }
         ensures stands { IfOk result (λ r. Stands r [] false) }
     {
-        let (room, most) = if is_full(need) {
-            (0, 0)
-        } else {
-            (room_of(need), SHORT)
-        };
-        let raw = Vec::with_capacity(alloc, room)?;
-        let body = Vec::with_capacity(alloc, most)?;
+        let raw = Vec::with_capacity(alloc, first_room(need))?;
+        let body = Vec::with_capacity(alloc, data_room(need))?;
         Ok(ResponseReader {
             alloc,
             need,
@@ -120,7 +129,7 @@ impl ResponseReader {
         if let Some(answer) = reply_again(self.stage) {
             return answer;
         }
-        let before = count(&self.raw, &self.tail);
+        let before = count_of(&self.raw, &self.tail, self.stage);
         let old = self.stage;
         let new = take_next(
             &mut self.raw,

@@ -4,7 +4,7 @@ use Rattle.std.proofs.lemmas.List.{take_min}
 use Rattle.ws_http.specs.ResponseStages.{Ready, Small, Judged, room_of}
 use Rattle.ws_http.proofs.ReaderLemmas.{take_over}
 use Rattle.ws_http.proofs.ReplyReaderLemmas.{reply_more}
-use Rattle.ws_http.proofs.ReplyTailLemmas.{apart_live}
+use Rattle.ws_http.proofs.ReplyTailLemmas.{apart_plain}
 use Rattle.ws_http.proofs.reply_tail.take_apart.Goals as goal
 
 pub read_apart-requires-clause-ready : goal.read_apart-requires-clause-ready
@@ -17,7 +17,7 @@ read_apart-requires-clause-ready c =
     let now = ap (λ (t : List ℕ). raw ++ t) (c.deref-in-Ok.ensures.value ∙ c.in-Ok.ensures.ok) ∙ sym (append_assoc raw tail taken) in (
       body,
       subst (λ (t : List ℕ). Ready n t body c.args.from) (sym now)
-          (reply_more n (raw ++ tail) taken body c.args.from (apart_live n c.args.from c.requires.apart).1 c.requires.ready.1),
+          (reply_more n (raw ++ tail) taken body c.args.from (apart_plain n c.args.from c.requires.apart) c.requires.ready.1),
     )
 
 pub returns-in-Ok-clause-took : goal.returns-in-Ok-clause-took

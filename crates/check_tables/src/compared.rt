@@ -1,8 +1,8 @@
 // What the tables answer whatever the time is, beside what the plain program computes from the events.
 
-use crate::made::TOPICS;
 use crate::moment::agrees_at;
 use crate::tables::{TIME_LIMIT, Tables};
+use check_histories::{TOPICS, is_first};
 use std::alloc::Global;
 use ws_model::{Event, Intent, Mode, NoMemory, Version, What};
 
@@ -68,13 +68,6 @@ fn waits(tables: &Tables, pending: &[Intent], intent: &Intent) -> bool {
         }
         None => false,
     }
-}
-
-/// Whether no pending intent of the same topic and callback has a lower number.
-pub fn is_first(pending: &[Intent], intent: &Intent) -> bool {
-    !pending.iter().any(|other| {
-        other.n < intent.n && other.topic == intent.topic && other.callback == intent.callback
-    })
 }
 
 fn notices_agree(alloc: Global, tables: &Tables, events: &[Event]) -> Result<bool, NoMemory> {

@@ -1,9 +1,10 @@
 // The work that the tables give as due, beside what the plain program computes.
 
 use crate::tables::Tables;
+use check_histories::copy;
 use std::alloc::Global;
 use ws_intent::Due;
-use ws_model::{Bytes, Event, Held, NoMemory, Work};
+use ws_model::{Event, Held, NoMemory, Work};
 
 /// Whether each table's first due work is the definitions', with the tickets of the first due works out, of
 /// none up to all. No work is due twice, so what is left beside them is what comes behind.
@@ -22,21 +23,6 @@ pub fn due_agrees(
         held.push(copy(alloc, work)?)?;
     }
     Ok(firsts_agree(tables, &[], &held, t))
-}
-
-fn copy(alloc: Global, work: &Work) -> Result<Work, NoMemory> {
-    match work {
-        Work::Verify { n } => Ok(Work::Verify { n: *n }),
-        Work::Notice { n } => Ok(Work::Notice { n: *n }),
-        Work::Fetch { topic, upto } => Ok(Work::Fetch {
-            topic: Bytes::copy(alloc, topic.as_slice())?,
-            upto: *upto,
-        }),
-        Work::Push { ver, lease } => Ok(Work::Push {
-            ver: *ver,
-            lease: *lease,
-        }),
-    }
 }
 
 fn firsts_agree(tables: &Tables, left: &[Work], held: &Held, t: u64) -> bool {

@@ -1,8 +1,8 @@
 // Histories worked out by hand.
 
 use crate::compared::agree_later;
-use crate::made::{CB, CC, X, Y, asked, fetched, pinged, unfetched};
 use crate::tables::Tables;
+use check_histories::{CB, CC, X, Y, asked, fetched, happen, leased, pinged, unfetched};
 use std::alloc::Global;
 use std::test::Fail;
 use ws_model::{Event, How, NoMemory, What};
@@ -19,19 +19,6 @@ pub fn stand_beside(alloc: Global, events: &[Event], later: &[u64]) -> Result<bo
         }
     }
     Ok(true)
-}
-
-fn happen(events: &mut Vec<Event>, t: u64, what: What) -> Result<(), NoMemory> {
-    let serial = events.len() as u64 + 1;
-    events.push(Event { serial, t, what })?;
-    Ok(())
-}
-
-fn leased(alloc: Global, granted: u32) -> Result<Vec<Event>, NoMemory> {
-    let mut events = Vec::new(alloc);
-    happen(&mut events, 1_000, asked(alloc, 1, X, CB, granted)?)?;
-    happen(&mut events, 1_029, What::Confirmed { n: 1, sent: 1_000 })?;
-    Ok(events)
 }
 
 fn pushed(events: &mut Vec<Event>, t: u64, ver: u64, how: How) -> Result<(), NoMemory> {

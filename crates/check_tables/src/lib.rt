@@ -3,8 +3,6 @@
 #![tactic(auto)]
 
 #[cfg(test)]
-mod chance;
-#[cfg(test)]
 mod compared;
 #[cfg(test)]
 mod due;
@@ -12,8 +10,6 @@ mod due;
 mod examples;
 #[cfg(test)]
 mod generated;
-#[cfg(test)]
-mod made;
 #[cfg(test)]
 mod moment;
 #[cfg(test)]

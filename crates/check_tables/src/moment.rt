@@ -2,8 +2,8 @@
 
 use crate::compared::number_fetched;
 use crate::due::due_agrees;
-use crate::made::TOPICS;
 use crate::tables::{TIME_LIMIT, Tables};
+use check_histories::TOPICS;
 use std::alloc::Global;
 use ws_model::{Event, Fate, Lease, NoMemory, What};
 use ws_plain::PairFate;

@@ -1,7 +1,7 @@
 // Events as the tests make them.
 
 use std::alloc::Global;
-use ws_model::{Alg, Bytes, Intent, Mode, NoMemory, Version, What};
+use ws_model::{Alg, Bytes, Event, Intent, Mode, NoMemory, Version, What, Work};
 
 pub const X: &str = "http://pub.example/x";
 
@@ -17,6 +17,21 @@ pub const CALLBACKS: [&str; 3] = [CB, CC, "http://sub.example/cd"];
 
 pub fn bytes(alloc: Global, text: &str) -> Result<Bytes, NoMemory> {
     Bytes::copy(alloc, text.as_bytes())
+}
+
+/// Adds what happens at `t`, in seconds, under the next serial.
+pub fn happen(events: &mut Vec<Event>, t: u64, what: What) -> Result<(), NoMemory> {
+    let serial = events.len() as u64 + 1;
+    events.push(Event { serial, t, what })?;
+    Ok(())
+}
+
+/// The events of a lease of so many seconds from 1000 on, confirmed at 1029.
+pub fn leased(alloc: Global, granted: u32) -> Result<Vec<Event>, NoMemory> {
+    let mut events = Vec::new(alloc);
+    happen(&mut events, 1_000, asked(alloc, 1, X, CB, granted)?)?;
+    happen(&mut events, 1_029, What::Confirmed { n: 1, sent: 1_000 })?;
+    Ok(events)
 }
 
 /// A subscription of so many seconds, or with 0 an unsubscription.
@@ -69,4 +84,20 @@ pub fn unfetched(alloc: Global, topic: &str, upto: u64) -> Result<What, NoMemory
         upto,
         why: 5,
     })
+}
+
+/// Work again.
+pub fn copy(alloc: Global, work: &Work) -> Result<Work, NoMemory> {
+    match work {
+        Work::Verify { n } => Ok(Work::Verify { n: *n }),
+        Work::Notice { n } => Ok(Work::Notice { n: *n }),
+        Work::Fetch { topic, upto } => Ok(Work::Fetch {
+            topic: Bytes::copy(alloc, topic.as_slice())?,
+            upto: *upto,
+        }),
+        Work::Push { ver, lease } => Ok(Work::Push {
+            ver: *ver,
+            lease: *lease,
+        }),
+    }
 }

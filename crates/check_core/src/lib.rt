@@ -1,0 +1,20 @@
+//! The core beside the plain program of the definitions, on histories by chance and on worked ones: tests
+//! alone.
+#![tactic(auto)]
+
+#[cfg(test)]
+mod applied;
+#[cfg(test)]
+mod due;
+#[cfg(test)]
+mod examples;
+#[cfg(test)]
+mod fetches;
+#[cfg(test)]
+mod generated;
+#[cfg(test)]
+mod moment;
+#[cfg(test)]
+mod next;
+#[cfg(test)]
+mod requests;

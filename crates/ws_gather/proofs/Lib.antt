@@ -1,0 +1,3 @@
+mod Falling
+mod Rising
+pub mod Members

@@ -167,6 +167,12 @@ ends_with_first rows heads n (Some x) i e = λ v.
     by (Some r) None a p k l = absurd (cc)
     by (Some r) (Some q) a p k l = let z : q ≡ p = cc in a ∙ ap (λ (y : OpenPair). y.exp) z ∙ sym l
 
+-- the first pair of a lease is open
+pub first_is_open : (rows : Rows) (n : ℕ) (x : NextTry) → IsStrictlySortedBy pair_order (keys_of rows) → head_try n rows ≡ Some x → (v : ℕ) × IsSomeAnd (pair_at v n rows) (λ p. p.exp ≡ x.exp)
+first_is_open rows n x s e =
+    let h = head_is n rows x (ascends rows s) e in
+    (x.ver, subst (λ o. IsSomeAnd o (λ p. p.exp ≡ x.exp)) (sym h.open_pair) (sym (ap (λ (z : NextTry). z.exp) h.is)))
+
 -- ---- the first pair of a lease that had none
 
 pub any_place : (p : NextTry → Bool) (x : NextTry) (xs : List NextTry) → list_any p (place before x xs) ≡ (p x || list_any p xs)

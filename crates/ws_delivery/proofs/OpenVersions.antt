@@ -1,11 +1,10 @@
 -- The versions that are open for a lease, and the look-ups of its pairs.
-use Rattle.std.proofs.Common.{◌≡◌, ℕ, Bool, true, false, cond, ◌&&◌, ◌||◌, List, [], ◌∷◌, refl, ap, sym, ◌∙◌, arith}
+use Rattle.std.proofs.Common.{◌≡◌, ℕ, Bool, true, false, cond, ◌&&◌, ◌||◌, [], ◌∷◌, refl, ap, sym, ◌∙◌, arith}
 use Rattle.std.specs.Prelude.{nat_lt, nat_le, filter, map, ◌==◌, is_some, Some}
 use Rattle.std.specs.List.{AllByRecursion, IsDistinct, list_any}
 use Rattle.std.specs.Ordering.{is_le}
-use Rattle.std.proofs.lemmas.Bool.{false≢true}
 use Rattle.std.proofs.lemmas.Bool.Decides.{nat_tests}
-use Rattle.ws_laws.proofs.ListLaws.{all_filter, all_map, all_weaker}
+use Rattle.ws_laws.proofs.ListLaws.{all_weaker}
 use Rattle.ws_delivery.specs.declared.open_pair.OpenPair.{OpenPair}
 use Rattle.ws_delivery.specs.OpenOf.{first_versions, open_versions}
 use Rattle.ws_delivery.specs.Table.{Rows, is_here, is_of_lease, pair_at, pair_order}

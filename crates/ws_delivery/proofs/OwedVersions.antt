@@ -10,12 +10,10 @@ use Rattle.ws_model.specs.declared.event.Event.{Event}
 use Rattle.ws_model.specs.Fate.{Pair}
 use Rattle.ws_model.specs.Pairs.{owed}
 use Rattle.ws_model.specs.Legal.{Legal}
-use Rattle.ws_model.specs.View.{owed_push}
-use Rattle.ws_delivery.specs.declared.open_pair.OpenPair.{OpenPair}
-use Rattle.ws_delivery.specs.OwedVersions.{is_owed_of, is_owed_version}
+use Rattle.ws_delivery.specs.OwedVersions.{is_owed_version}
 use Rattle.ws_delivery.specs.Stands.{StandsFor}
-use Rattle.ws_delivery.specs.Table.{Rows, owed_at, pair_order}
-use Rattle.ws_delivery.proofs.Owing.{is_owed_entry, key_of, key_test, member_owed, member_rows, same_key}
+use Rattle.ws_delivery.specs.Table.{Rows, pair_order}
+use Rattle.ws_delivery.proofs.Owing.{is_owed_entry, key_of, member_owed, member_rows, same_key}
 use Rattle.ws_delivery.proofs.RowsByKey.{ascends}
 
 -- ---- the keys of what is owed

@@ -1,5 +1,5 @@
 -- The versions that are open for a lease (own).
-use Rattle.std.specs.Prelude.{ℕ, cond, List, [], ◌∷◌, map, filter, ◌==◌, Option, Some, None}
+use Rattle.std.specs.Prelude.{ℕ, cond, List, [], ◌∷◌, map, filter, Option, Some, None}
 use Rattle.ws_delivery.specs.declared.open_pair.OpenPair.{OpenPair}
 use Rattle.ws_delivery.specs.Table.{Rows, is_of_lease}
 

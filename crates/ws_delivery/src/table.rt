@@ -70,7 +70,8 @@ impl Deliveries {
 
     /// The end of a lease, as its open pairs have it, where it has one.
     pub fn end_of(&self, lease: u64) -> Option<u64>
-        ensures { MatchOption result ((v : ℕ) → pair_at v lease self.now ≡ None) (λ exp. (v : ℕ) → IfSome (pair_at v lease self.now) (λ p. p.exp ≡ exp)) }
+        ensures end { MatchOption result ((v : ℕ) → pair_at v lease self.now ≡ None) (λ exp. (v : ℕ) → IfSome (pair_at v lease self.now) (λ p. p.exp ≡ exp)) }
+        ensures held { IfSome result (λ exp. (v : ℕ) × IsSomeAnd (pair_at v lease self.now) (λ p. p.exp ≡ exp)) }
     {
         match self.pairs.first_of(lease) {
             Some(first) => Some(first.exp),

@@ -114,3 +114,14 @@ is_quiet _ = true
 -- a table that stands at the moment of any other event stands, as it is, for the history with the event
 abbrev pub StandsOn : Type 0
 StandsOn = (h : List Event) (e : Event) (rows : Rows) → Legal (e ∷ h) → is_quiet e.what ≡ true → StandsFor h e.t rows → StandsFor (e ∷ h) e.t rows
+
+-- ---- a table in which nothing expires
+
+-- what is kept of a pair where no event says that it has expired: it stays open
+abbrev pub without_expiry : Standing → Standing
+without_expiry (Ended cause.Expired) = Open
+without_expiry s = s
+
+-- From the moment `since` on the table has each pair of the history with what became of it, and no other; an expired one stays open.
+abbrev pub AreShown : List Event → ℕ → Rows → Type 0
+AreShown h since rows = (t v n : ℕ) → since ≤ t → standing_at v n rows ≡ option_map without_expiry (option_map standing (fate_of h v n t))

@@ -1,5 +1,5 @@
 // The table of pairs with what became of them.
-ghost use Rattle.std.specs.Prelude.{◌≡◌, ◌∷◌, ◌≤◌, [], ℕ, None, Some, cond, length, OnOk, OnErr};
+ghost use Rattle.std.specs.Prelude.{◌≡◌, ◌∷◌, ◌≤◌, ◌<◌, ◌^◌, ◌==◌, [], ℕ, None, Some, cond, filter, length, OnOk, OnErr};
 ghost use Rattle.std.specs.List.Sorted.{IsStrictlySortedBy};
 ghost use Rattle.std.specs.Map.{keys_of};
 ghost use Rattle.ws_model.specs.declared.event.Event.{Event};
@@ -12,6 +12,7 @@ ghost use Rattle.ws_fate.specs.Totals.{none, of_tally, with_one};
 use crate::{Standing, Totals};
 use std::alloc::Global;
 use std::collections::BTreeMap;
+use std::collections::btree_map::{Iter, Range};
 use std::marker::Model;
 use ws_model::{NoMemory, Tally};
 
@@ -67,6 +68,24 @@ impl Fates {
         ensures ordered { IsStrictlySortedBy pair_order (keys_of self.now.pairs) }
     {
         self.by_pair.len() as u64
+    }
+
+    /// The pairs by lease and version, each as these two numbers in this order, with what became of them.
+    /// It takes no memory.
+    pub fn pairs(&self) -> Iter<'_, (u64, u64), Standing>
+        ensures rest { result ≡ self.now.pairs }
+        ensures ordered { IsStrictlySortedBy pair_order (keys_of self.now.pairs) }
+    {
+        self.by_pair.iter()
+    }
+
+    /// The pairs of one lease by version, each as the numbers of its lease and its version, with what
+    /// became of them. It takes no memory.
+    pub fn pairs_of(&self, lease: u64) -> Range<'_, (u64, u64), Standing>
+        requires { lease < 2 ^ 63 }
+        ensures { result ≡ filter (λ e. e.0.0 == lease) self.now.pairs }
+    {
+        self.by_pair.range((lease, 0)..(lease + 1, 0))
     }
 
     /// How many pairs ended in each way. It takes no memory.

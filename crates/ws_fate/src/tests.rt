@@ -17,6 +17,13 @@ fn pairs_and_their_ends(rt: HostRuntime) -> Result<(), Fail> {
     assert_eq!(rt; fates.get(1, 3), Some(Standing::Ended(Cause::Replaced)));
     assert_eq!(rt; fates.get(2, 3), None);
     assert_eq!(rt; fates.get(2, 1), None);
+    assert_eq!(rt; fates.pairs().count(), 2);
+    let mut of_three = fates.pairs_of(3);
+    assert_eq!(rt;
+        of_three.next(),
+        Some((&(3, 1), &Standing::Ended(Cause::Replaced)))
+    );
+    assert!(rt; of_three.next().is_none());
     let wanted = Totals {
         answered: 1,
         replaced: 1,

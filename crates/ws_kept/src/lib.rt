@@ -1,0 +1,8 @@
+//! Which versions and which leases a compaction keeps.
+#![tactic(auto)]
+
+mod kept;
+#[cfg(test)]
+mod tests;
+
+pub use kept::Kept;

@@ -12,8 +12,7 @@ use ws_kept::Kept;
 use ws_model::{Event, NoMemory, What};
 use ws_tries::{Tries, Try};
 
-/// The events of the pushes that are kept, those of a kept version to a kept lease, in any order: those
-/// of a pair stand together, the oldest first.
+/// The events of the pushes that are kept, those of a kept version to a kept lease, in any order.
 pub fn kept_pushes(alloc: Global, tries: &Tries, kept: &Kept) -> Result<Vec<Event>, NoMemory>
     ensures gathered { (h : List Event) (t : ℕ) → Legal h → StandsFor h tries.now → HaveRooms h t tries.now → AreKept h t kept.now → IfOk result (λ events. AreGathered h (is_kept_push h t) events.items) }
 {

@@ -11,7 +11,7 @@ use Rattle.ws_laws.proofs.ListLaws.{all_from, filter_same}
 use Rattle.ws_tries.specs.declared.room.Try.{Try}
 use Rattle.ws_tries.specs.Rows.{Rows, is_here, pair_order, tries_at}
 
-key_test : (v n w m : ℕ) → is_at (pair_order (v, n)) (w, m) ≡ is_here v n w m
+pub key_test : (v n w m : ℕ) → is_at (pair_order (v, n)) (w, m) ≡ is_here v n w m
 key_test v n w m = grind (arith, nat_tests)
 
 pub looks_by_key : (old new : Rows) (ver lease : ℕ) (x : Option (List Try))

@@ -55,7 +55,7 @@ undone pairs old now new others v n = by (is_listed v n pairs) refl
 
 -- ---- maps in the order of pairs
 
-total : IsTotalOrder pair_order
+pub total : IsTotalOrder pair_order
 total = then_total (on_total (λ (x : ℕ × ℕ). x.0) nat_cmp_total) (on_total (λ (x : ℕ × ℕ). x.1) nat_cmp_total)
 
 -- such maps are the same where they say the same of each pair

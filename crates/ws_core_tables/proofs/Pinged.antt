@@ -1,6 +1,6 @@
 -- The latest ping of a topic whose fetch is owed, as the table of topics and as the history has it.
 use Rattle.std.proofs.Common.{◌≡◌, ℕ, List, refl, ap, ◌∙◌}
-use Rattle.std.specs.Prelude.{Option, Some, None, bytes_eq, find, map}
+use Rattle.std.specs.Prelude.{Option, Some, None, bytes_eq, find}
 use Rattle.std.specs.Option.{option_map}
 use Rattle.ws_model.specs.declared.event.Event.{Event}
 use Rattle.ws_model.specs.Versions.{Ping, fetches}

@@ -1,32 +1,36 @@
 -- What an event makes, told before it is applied: pairs, and a lease that replaces another one.
 use Rattle.std.proofs.Common.{◌≡◌, ℕ, ◌≤◌, Bool, true, false, cond, ◌||◌, List, [], ◌∷◌, refl, ap, sym, ◌∙◌, subst, arith}
-use Rattle.std.specs.Prelude.{bytes_eq, find, is_some, Option, Some, None, filter}
+use Rattle.std.specs.Prelude.{bytes_eq, find, is_some, IsSomeAnd, Option, Some, None, filter}
 use Rattle.std.specs.List.{list_any}
 use Rattle.std.specs.Option.{option_map}
 use Rattle.ws_model.specs.declared.event.Event.{Event}
 use Rattle.ws_model.specs.declared.event.Intent.{Intent}
+use Rattle.ws_model.specs.declared.event.Mode.{Mode}
+use Rattle.ws_model.specs.declared.event.Mode.TheVariants.{Off}
 use Rattle.ws_model.specs.declared.event.Version.{Version}
 use Rattle.ws_model.specs.declared.event.What.{What}
 use Rattle.ws_model.specs.declared.event.What.TheVariants.{Asked, Confirmed, Declined, Unheard, Barred, Noticed, Pinged, Fetched, Same, Unfetched, Pushed, Tally, Revoked}
 use Rattle.ws_model.specs.declared.lease.Lease.{Lease}
 use Rattle.ws_model.specs.Fate.{fate}
 use Rattle.ws_model.specs.Intents.{same_pair}
-use Rattle.ws_model.specs.Leases.{confirmed_intent, is_on, lease_by, lease_of, live}
+use Rattle.ws_model.specs.Leases.{confirmed_intent, is_on, lease_of, live}
 use Rattle.ws_model.specs.Legal.{Legal, pending_of}
 use Rattle.ws_model.specs.Revocation.{is_lease_of}
 use Rattle.ws_model.specs.Verdict.{fate_of, pair_of}
 use Rattle.ws_model.specs.View.{view}
 use Rattle.ws_laws.specs.Steps.{new_pushes, owed_afresh}
 use Rattle.ws_laws.proofs.ListLaws.{all_from}
+use Rattle.ws_intent.specs.declared.rows.Waiting.{Waiting}
+use Rattle.ws_intent.specs.Rows.{number_at}
 use Rattle.ws_lease.specs.Stands.{AreNumbersOf}
 use Rattle.ws_lease.proofs.Standing.{pair_turned}
 use Rattle.ws_fate.specs.declared.totals.Standing.{Standing}
 use Rattle.ws_fate.specs.declared.totals.Standing.TheVariants.{Open}
 use Rattle.ws_fate.specs.Rows.{standing_at}
-use Rattle.ws_fate.specs.Stands.{by_event, is_pair, standing_after}
+use Rattle.ws_fate.specs.Stands.{by_event, is_pair}
 use Rattle.ws_fate.specs.Totals.{standing}
 use Rattle.ws_fate.proofs.Stepping.{shows_after}
-use Rattle.ws_core_tables.proofs.Confirmation.{confirmed_is}
+use Rattle.ws_core_tables.proofs.Confirmation.{IsThere, confirmed_is, there}
 use Rattle.ws_core_tables.proofs.NewLease.{makes_lease}
 use Rattle.ws_core_tables.proofs.Renewal.{find_same}
 use Rattle.ws_ledger.specs.Births.{AreBirths, FindsBirths, FindsRenewal, makes_pairs, renewal_of}
@@ -97,16 +101,24 @@ by_lease e n sent i o rows kind on is waits meant h since s l k =
     made : Lease
     made = record { intent = i; sent = sent }
 
-none_made : (e : Event) (h : List Event) (rows : Rows) → Legal (e ∷ h) → new_pushes e.t e.what (confirmed_intent e.what h) (view h e.t) ≡ [] → AreBirths e h []
-none_made e h rows l none = record { fresh = λ v n q. absurd (other q); all = all_made e h [] l (λ v n. ap (list_any (is_pair v n)) none) }
+none_made : (e : Event) (h : List Event) → Legal (e ∷ h) → new_pushes e.t e.what (confirmed_intent e.what h) (view h e.t) ≡ [] → AreBirths e h []
+none_made e h l none = record { fresh = λ v n q. absurd (other q); all = all_made e h [] l (λ v n. ap (list_any (is_pair v n)) none) }
   where
     other : false ≡ true → ⊥
     other j = cc
 
+-- the pending intent that asks for the end of a subscription
+pub asks_off :
+    (n : ℕ) (inside rows : Rows) (mode : Mode) → inside ≡ rows → mode ≡ Off → IsSomeAnd (number_at n inside.tables.intents.pending) (λ w. w.intent.mode ≡ mode)
+    → IsThere (λ (w : Waiting). is_on w.intent.mode ≡ false) (number_at n rows.tables.intents.pending)
+asks_off n inside rows mode same off k =
+    let w = there (λ (w : Waiting). w.intent.mode ≡ mode) (number_at n inside.tables.intents.pending) k in
+    record { it = w.it; is = w.is ∙ ap (λ (r : Rows). number_at n r.tables.intents.pending) same; has = ap is_on (w.has ∙ off) }
+
 -- the end of a subscription makes no pair
 pub by_end :
     (e : Event) (n sent : ℕ) (i : Intent) (rows : Rows) → e.what ≡ Confirmed n sent → is_on i.mode ≡ false → ((h : List Event) (since : ℕ) → StandsFor h since rows → Some i ≡ pending_of h n) → FindsBirths e rows []
-by_end e n sent i rows kind off waits h since s l k = none_made e h rows l ((λ j. new_pushes e.t (kind j) (confirmed_is e h n sent i kind (waits h since s) j) (view h e.t)) ∙ ap (λ b. owed_afresh e.t (view h e.t).owed (cond b (made ∷ []) [])) off)
+by_end e n sent i rows kind off waits h since s l k = none_made e h l ((λ j. new_pushes e.t (kind j) (confirmed_is e h n sent i kind (waits h since s) j) (view h e.t)) ∙ ap (λ b. owed_afresh e.t (view h e.t).owed (cond b (made ∷ []) [])) off)
   where
     made : Lease
     made = record { intent = i; sent = sent }
@@ -127,15 +139,18 @@ no_pushes t (Pushed v n how) h k = refl
 no_pushes t (Tally c) h k = refl
 no_pushes t (Revoked n reason) h k = refl
 
+pub nothing_born : (e : Event) (h : List Event) → Legal (e ∷ h) → makes_pairs e.what ≡ false → AreBirths e h []
+nothing_born e h l none = none_made e h l (no_pushes e.t e.what h none)
+
 pub by_none : (e : Event) (rows : Rows) → makes_pairs e.what ≡ false → FindsBirths e rows []
-by_none e rows none h since s l k = none_made e h rows l (no_pushes e.t e.what h none)
+by_none e rows none h since s l k = nothing_born e h l none
 
 -- ---- which lease is replaced
 
 same_lease : (i : Intent) (ls : List Lease) → find (is_lease_of i.topic i.callback) ls ≡ find (λ m. same_pair i m.intent) ls
 same_lease i ls = find_same (is_lease_of i.topic i.callback) (λ m. same_pair i m.intent) ls (all_from (λ m. is_lease_of i.topic i.callback m ≡ same_pair i m.intent) (pair_turned i) ls)
 
-with_number : (n : ℕ) (o : Option Lease) → option_map (λ m. (n, m)) (option_map (λ l. l.intent.n) o) ≡ option_map (λ l. (n, l.intent.n)) o
+with_number : (n : ℕ) (o : Option Lease) → option_map {U = ℕ × ℕ} (λ m. (n, m)) (option_map (λ l. l.intent.n) o) ≡ option_map {U = ℕ × ℕ} (λ l. (n, l.intent.n)) o
 with_number n None = refl
 with_number n (Some l) = refl
 
@@ -143,11 +158,11 @@ pub renews :
     (e : Event) (n sent : ℕ) (i : Intent) (o : Option ℕ) (rows : Rows) → e.what ≡ Confirmed n sent → is_on i.mode ≡ true → i.n ≡ n
     → ((h : List Event) (since : ℕ) → StandsFor h since rows → Some i ≡ pending_of h n)
     → ((h : List Event) (since : ℕ) → StandsFor h since rows → Legal h → since ≤ e.t → o ≡ lease_meant h e.t i)
-    → FindsRenewal e rows (option_map (λ m. (n, m)) o)
+    → FindsRenewal e rows (option_map {U = ℕ × ℕ} (λ m. (n, m)) o)
 renews e n sent i o rows kind on is waits meant h since s l k =
-    ap (option_map (λ m. (n, m))) (meant h since s l.0 k)
+    ap (option_map {U = ℕ × ℕ} (λ m. (n, m))) (meant h since s l.0 k)
     ∙ with_number n (find (is_lease_of i.topic i.callback) (live h e.t))
-    ∙ (λ j. option_map (λ l. (sym is j, l.intent.n)) (same_lease i (live h e.t) j))
+    ∙ (λ j. option_map {U = ℕ × ℕ} (λ l. (sym is j, l.intent.n)) (same_lease i (live h e.t) j))
     ∙ sym (ap (λ b. renewal_of (live h e.t) (cond b (record { intent = i; sent = sent } ∷ []) [])) on)
     ∙ sym (λ j. renewal_of (live h e.t) (lease_of (kind j) (confirmed_is e h n sent i kind (waits h since s) j)))
 

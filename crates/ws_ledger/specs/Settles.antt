@@ -1,5 +1,5 @@
 -- Of which work an outcome may be judged (own).
-use Rattle.std.specs.Prelude.{◌≡◌, ℕ, true, is_some, List}
+use Rattle.std.specs.Prelude.{◌≡◌, true, is_some, List}
 use Rattle.ws_model.specs.declared.event.Event.{Event}
 use Rattle.ws_model.specs.declared.work.Work.{Work}
 use Rattle.ws_model.specs.declared.work.Work.TheVariants.{Verify}

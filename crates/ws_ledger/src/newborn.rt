@@ -33,7 +33,12 @@ impl Ledger {
     }
 
     /// The pairs of a new lease, where the confirmed intent asks for one.
-    fn births_by_confirmation(&self, event: &Event, n: u64, sent: u64) -> Result<Vec<(u64, u64)>, NoMemory>
+    fn births_by_confirmation(
+        &self,
+        event: &Event,
+        n: u64,
+        sent: u64,
+    ) -> Result<Vec<(u64, u64)>, NoMemory>
         requires kind { event.now.what ≡ Confirmed n sent }
         requires follows { CanFollow self.now event.now }
         ensures { IfOk result (λ births. FindsBirths event.now self.now births.items) }
@@ -45,7 +50,12 @@ impl Ledger {
     }
 
     /// The pairs that go over to a new lease.
-    fn births_of_lease(&self, event: &Event, n: u64, _sent: u64) -> Result<Vec<(u64, u64)>, NoMemory>
+    fn births_of_lease(
+        &self,
+        event: &Event,
+        n: u64,
+        _sent: u64,
+    ) -> Result<Vec<(u64, u64)>, NoMemory>
         requires kind { event.now.what ≡ Confirmed n _sent }
         requires mode { IsSomeAnd (number_at n self.now.tables.intents.pending) (λ w. is_on w.intent.mode ≡ true) }
         requires follows { CanFollow self.now event.now }

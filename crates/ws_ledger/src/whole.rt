@@ -1,5 +1,5 @@
 // The tables, and what became of each pair.
-ghost use Rattle.std.specs.Prelude.{[]};
+ghost use Rattle.std.specs.Prelude.{◌≡◌, []};
 ghost use Rattle.ws_ledger.specs.Follows.{HasHistory};
 ghost use Rattle.ws_ledger.specs.Stands.{StandsFor};
 
@@ -38,5 +38,19 @@ impl Ledger {
             fates: Fates::empty(alloc),
             open_pairs: 0,
         }
+    }
+
+    /// The tables of intents, leases, topics and deliveries.
+    pub fn tables(&self) -> &Tables
+        ensures { result.now ≡ self.now.tables }
+    {
+        &self.tables
+    }
+
+    /// What became of each pair.
+    pub fn fates(&self) -> &Fates
+        ensures { result.now ≡ self.now.fates }
+    {
+        &self.fates
     }
 }

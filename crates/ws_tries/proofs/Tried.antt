@@ -35,7 +35,7 @@ use Rattle.ws_tries.specs.Stands.{AtMostEight, HasPlace, Untried, tried, tries_o
 
 -- ---- a pair that isn't there wasn't tried
 
-here_is : (a b v n : ℕ) → is_here a b v n ≡ true → (a ≡ v) × (b ≡ n)
+pub here_is : (a b v n : ℕ) → is_here a b v n ≡ true → (a ≡ v) × (b ≡ n)
 here_is a b v n k = let p = and_parts (a == v) (b == n) k in (eqb-true a v p.0, eqb-true b n p.1)
 
 -- whether the pair of these numbers is among them

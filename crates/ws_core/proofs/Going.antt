@@ -1,0 +1,140 @@
+-- The core over an event, and over several that make and end no pair.
+use Rattle.std.proofs.Common.{◌≡◌, ℕ, suc, ◌≤◌, Bool, true, false, cond, ◌&&◌, List, [], ◌∷◌, ◌++◌, refl, ap, sym, ◌∙◌, subst, arith}
+use Rattle.std.specs.Prelude.{is_some, reverse, Option, Some, None}
+use Rattle.std.specs.List.{list_all}
+use Rattle.std.proofs.lemmas.Bool.{and_parts, false≢true}
+use Rattle.std.proofs.lemmas.List.{append_assoc, append-nil}
+use Rattle.ws_model.specs.declared.event.Event.{Event}
+use Rattle.ws_model.specs.declared.event.How.{How}
+use Rattle.ws_model.specs.declared.event.What.{What}
+use Rattle.ws_model.specs.declared.event.What.TheVariants.{Asked, Confirmed, Declined, Unheard, Barred, Noticed, Pinged, Fetched, Same, Unfetched, Pushed, Tally, Revoked}
+use Rattle.ws_model.specs.Legal.{Legal}
+use Rattle.ws_model.specs.Moment.{serial}
+use Rattle.ws_model.specs.Verdict.{pair_of}
+use Rattle.ws_fate.specs.Stands.{is_quiet}
+use Rattle.ws_compaction.proofs.Dropped.{drops_lease_later, drops_version_later}
+use Rattle.ws_tries.specs.Rows.{Rows as TryRows, is_listed, tries_at}
+use Rattle.ws_tries.specs.Stands.{Adds, HaveRooms, StandsFor as TriesStand, is_any_push}
+use Rattle.ws_kept.specs.Stands.{light_event, log_of, renewals}
+use Rattle.ws_core_tables.specs.Committing.{committed, numbered}
+use Rattle.ws_ledger.specs.Births.{AreBirths, FindsBirths, FindsRenewal, makes_pairs}
+use Rattle.ws_ledger.specs.Committing.{AllGoOn as LedgerAllGoOn, are_quiet}
+use Rattle.ws_ledger.specs.Stands.{GoesOn as LedgerGoesOn}
+use Rattle.ws_ledger.proofs.NewPairs.{by_none, nothing_born}
+use Rattle.ws_ledger.proofs.Together.{legal_past}
+use Rattle.ws_core.specs.Committing.{AllGoOn}
+use Rattle.ws_core.specs.Rows.{Rows}
+use Rattle.ws_core.specs.Stands.{GoesOn, StandsFor}
+use Rattle.ws_core.proofs.Log.{listed, log_other, log_pushed, log_quiet, quiet_other, renewals_after, renewals_pushed, renewals_quiet}
+use Rattle.ws_core.proofs.Rooms.{only_after, pushed_tries, rooms_after, stays_absent, stays_there, tries_after}
+
+-- ---- a push
+
+pub pushed_goes :
+    (e : Event) (v n : ℕ) (how : How) (old new : Rows) → e.what ≡ Pushed v n how → LedgerGoesOn e old.ledger new.ledger → new.log ≡ old.log → new.renewals ≡ old.renewals
+    → Adds v n (record { serial = e.serial; t = e.t; how = how }) old.tries new.tries → GoesOn e old new
+pushed_goes e v n how old new kind goes same_log same_renewals adds h since s l le =
+    let born : AreBirths e h [] = nothing_born e h l (ap makes_pairs kind) in
+    record {
+      ledger = goes h since s.ledger l le;
+      log = same_log ∙ s.log ∙ sym (log_pushed e h (ap is_any_push kind));
+      renewals = same_renewals ∙ s.renewals ∙ ap reverse (sym (renewals_pushed e h v n how kind));
+      tries = pushed_tries e h v n how old.tries new.tries kind adds s.tries;
+      only = only_after e h [] old.tries new.tries born (λ w m _ k. stays_absent v n (record { serial = e.serial; t = e.t; how = how }) old.tries new.tries adds w m k) s.only;
+      rooms =
+          rooms_after e h since [] old.tries new.tries l le born (stays_there v n (record { serial = e.serial; t = e.t; how = how }) old.tries new.tries adds)
+          (λ w m k. absurd (false≢true k)) s.rooms;
+    }
+
+-- ---- anything else
+
+pub other_goes :
+    (e : Event) (births : List (ℕ × ℕ)) (found : Option (ℕ × ℕ)) (old new : Rows) → is_any_push e.what ≡ false → LedgerGoesOn e old.ledger new.ledger
+    → FindsBirths e old.ledger births → FindsRenewal e old.ledger found
+    → new.log ≡ old.log ++ light_event e ∷ [] → new.renewals ≡ old.renewals ++ listed found
+    → ((v n : ℕ) → tries_at v n new.tries ≡ cond (is_listed v n births) (Some []) (tries_at v n old.tries)) → GoesOn e old new
+other_goes e births found old new other goes finds renews log renewed look h since s l le =
+    let born = finds h since s.ledger l le in
+    record {
+      ledger = goes h since s.ledger l le;
+      log = log ∙ ap (λ es. es ++ light_event e ∷ []) s.log ∙ sym (log_other e h other);
+      renewals = renewed ∙ ap (λ rs. rs ++ listed found) s.renewals ∙ sym (renewals_after e h found (renews h since s.ledger l le));
+      tries = tries_after e h births old.tries new.tries l.0 other born look s.tries;
+      only = only_after e h births old.tries new.tries born (λ v n q k. look v n ∙ ap (λ b. cond b (Some []) (tries_at v n old.tries)) q ∙ k) s.only;
+      rooms =
+          rooms_after e h since births old.tries new.tries l le born (λ v n k. ap is_some (look v n) ∙ by v n (is_listed v n births) k)
+          (λ v n q. ap is_some (look v n ∙ ap (λ b. cond b (Some []) (tries_at v n old.tries)) q)) s.rooms;
+    }
+  where
+    by : (v n : ℕ) (b : Bool) → is_some (tries_at v n old.tries) ≡ true → is_some (cond b (Some []) (tries_at v n old.tries)) ≡ true
+    by v n true k = refl
+    by v n false k = k
+
+-- the births have no rooms yet
+pub without_rooms : (e : Event) (h : List Event) (births : List (ℕ × ℕ)) (since : ℕ) (rows : Rows) → StandsFor h since rows → AreBirths e h births → (v n : ℕ) → is_listed v n births ≡ true → tries_at v n rows.tries ≡ None
+without_rooms e h births since rows s born v n k = s.only v n (born.fresh v n k)
+
+-- ---- several events that make and end no pair
+
+quiet_pairs : (w : What) → is_quiet w ≡ true → makes_pairs w ≡ false
+quiet_pairs (Confirmed n sent) q = absurd (false≢true q)
+quiet_pairs (Fetched v) q = absurd (false≢true q)
+quiet_pairs (Pushed v n how) q = refl
+quiet_pairs (Asked i) q = refl
+quiet_pairs (Declined n code) q = refl
+quiet_pairs (Unheard n) q = refl
+quiet_pairs (Barred n reason) q = refl
+quiet_pairs (Noticed n heard) q = refl
+quiet_pairs (Pinged topic) q = refl
+quiet_pairs (Same topic upto) q = refl
+quiet_pairs (Unfetched topic upto why) q = refl
+quiet_pairs (Tally c) q = refl
+quiet_pairs (Revoked n reason) q = refl
+
+-- what stands beside the ledger, but the log
+record Beside (h : List Event) (since : ℕ) (rows : Rows) : Type 0 where
+  renewed : rows.renewals ≡ reverse (renewals h)
+  tries : TriesStand h rows.tries
+  only : (v n : ℕ) → pair_of h v n ≡ None → tries_at v n rows.tries ≡ None
+  rooms : HaveRooms h since rows.tries
+
+beside_quiet : (e : Event) (h : List Event) (since : ℕ) (rows : Rows) → Legal (e ∷ h) → since ≤ e.t → is_quiet e.what ≡ true → Beside h since rows → Beside (e ∷ h) e.t rows
+beside_quiet e h since rows l le q b =
+    let born : AreBirths e h [] = nothing_born e h l (quiet_pairs e.what q) in
+    record {
+      renewed = b.renewed ∙ ap reverse (sym (renewals_quiet e h q));
+      tries = tries_after e h [] rows.tries rows.tries l.0 (quiet_other e.what q) born (λ v n. refl) b.tries;
+      only = only_after e h [] rows.tries rows.tries born (λ v n _ k. k) b.only;
+      rooms = rooms_after e h since [] rows.tries rows.tries l le born (λ v n k. k) (λ v n k. absurd (false≢true k)) b.rooms;
+    }
+
+-- all of them, of which the log has not yet the events
+beside_all : (t : ℕ) (whats : List What) (h : List Event) (since : ℕ) (rows : Rows) → Legal (committed t whats h) → since ≤ t → are_quiet whats ≡ true → Beside h since rows → Beside (committed t whats h) t rows
+beside_all t [] h since rows l le q b =
+    record { renewed = b.renewed; tries = b.tries; only = b.only; rooms = λ v n kv kn k. b.rooms v n (drops_version_later h since t v le kv) (drops_lease_later h since t n l le kn) k }
+beside_all t (w ∷ ws) h since rows l le q b =
+    let e : Event = record { serial = suc (serial h); t = t; what = w } in
+    let parts = and_parts (is_quiet w) (list_all is_quiet ws) q in
+    beside_all t ws (e ∷ h) t rows l (omega arith) parts.1 (beside_quiet e h since rows (legal_past t ws (e ∷ h) l) le parts.0 b)
+
+log_all : (t : ℕ) (whats : List What) (h : List Event) → are_quiet whats ≡ true → log_of (committed t whats h) ≡ log_of h ++ numbered t whats h
+log_all t [] h q = sym (append-nil (log_of h))
+log_all t (w ∷ ws) h q =
+    let e : Event = record { serial = suc (serial h); t = t; what = w } in
+    let parts = and_parts (is_quiet w) (list_all is_quiet ws) q in
+    log_all t ws (e ∷ h) parts.1 ∙ ap (λ es. es ++ numbered t ws (e ∷ h)) (log_quiet e h parts.0) ∙ append_assoc (log_of h) (e ∷ []) (numbered t ws (e ∷ h))
+
+pub all_go_on :
+    (t : ℕ) (whats : List What) (events : List Event) (old new : Rows) → are_quiet whats ≡ true → LedgerAllGoOn t whats old.ledger new.ledger
+    → ((h : List Event) (since : ℕ) → StandsFor h since old → events ≡ numbered t whats h)
+    → new.log ≡ old.log ++ events → new.renewals ≡ old.renewals → new.tries ≡ old.tries → AllGoOn t whats old new
+all_go_on t whats events old new quiet goes are log same_renewals same_tries h since s l le =
+    let b = beside_all t whats h since old l le quiet (record { renewed = s.renewals; tries = s.tries; only = s.only; rooms = s.rooms }) in
+    record {
+      ledger = goes h since s.ledger l le;
+      log = log ∙ (λ j. s.log j ++ are h since s j) ∙ sym (log_all t whats h quiet);
+      renewals = same_renewals ∙ b.renewed;
+      tries = subst (TriesStand (committed t whats h)) (sym same_tries) b.tries;
+      only = subst (λ (rows : TryRows). (v n : ℕ) → pair_of (committed t whats h) v n ≡ None → tries_at v n rows ≡ None) (sym same_tries) b.only;
+      rooms = subst (HaveRooms (committed t whats h) t) (sym same_tries) b.rooms;
+    }

@@ -1,0 +1,4 @@
+pub mod Following
+pub mod Rooms
+pub mod Log
+pub mod Going

@@ -30,9 +30,9 @@ one_serial : (h : List Event) (topic : List ℕ) → AllByRecursion (HasSerial t
 one_serial h topic =
     all_weaker (λ (p : Ping). Unit {0} × (is_owed_fetch h p ≡ true)) (HasSerial topic (serial_of (find (of_topic topic) (pings h))))
     (λ p k same.
-        at_serial p.serial (find (of_topic topic) (pings h))
-        (ap (λ x. is_ping_at p.serial (find (λ q. bytes_eq q.topic x) (pings h))) (sym (bytes_are p.topic topic same))
-        ∙ first h p k.1))
+    at_serial p.serial (find (of_topic topic) (pings h))
+    (ap (λ x. is_ping_at p.serial (find (λ q. bytes_eq q.topic x) (pings h))) (sym (bytes_are p.topic topic same))
+    ∙ first h p k.1))
     (fetches h) (all_filter_with (λ _. Unit {0}) (is_owed_fetch h) (pings h) (all_from (λ _. Unit {0}) (λ _. tt) (pings h)))
   where
     first : (h : List Event) (p : Ping) → is_owed_fetch h p ≡ true → is_ping_at p.serial (find (λ q. bytes_eq q.topic p.topic) (pings h)) ≡ true

@@ -29,9 +29,10 @@ IsWithin most e = (v : Version) → e.what ≡ Fetched v → v.ver ≤ most
 
 within : (h : List Event) → AllByRecursion (IsWithin (last_version h)) h
 within [] = tt
-within (e ∷ h) =
-    ((λ v k. let m : fetched_number e.what ≡ v.ver = ap fetched_number k in omega arith),
-    all_weaker (IsWithin (last_version h)) (IsWithin (last_version (e ∷ h))) (λ d f v k. let m : v.ver ≤ last_version h = f v k in omega arith) h (within h))
+within (e ∷ h) = (
+  (λ v k. let m : fetched_number e.what ≡ v.ver = ap fetched_number k in omega arith),
+  all_weaker (IsWithin (last_version h)) (IsWithin (last_version (e ∷ h))) (λ d f v k. let m : v.ver ≤ last_version h = f v k in omega arith) h (within h),
+)
 
 -- the newest is found by its number
 new_found : (e : Event) (h : List Event) → IsFoundIn (e ∷ h) e
@@ -54,9 +55,10 @@ both h (e ∷ es) P Q R f a b = (f e a.0 b.0, both h es P Q R f a.1 b.1)
 -- each version is the one that the history has by its number
 pub all_found : (h : List Event) → Legal h → AllByRecursion (IsFoundIn h) h
 all_found [] l = tt
-all_found (e ∷ h) l =
-    (new_found e h,
-    both h h (IsWithin (last_version h)) (IsFoundIn h) (IsFoundIn (e ∷ h)) (λ d w f v k. still_found e h e.what (allowed h e l.1) v (w v k) ∙ f v k) (within h) (all_found h l.0))
+all_found (e ∷ h) l = (
+  new_found e h,
+  both h h (IsWithin (last_version h)) (IsFoundIn h) (IsFoundIn (e ∷ h)) (λ d w f v k. still_found e h e.what (allowed h e l.1) v (w v k) ∙ f v k) (within h) (all_found h l.0),
+)
 
 -- ---- events made whole again
 

@@ -230,8 +230,8 @@ latest_held h since rows s topic v k = by (latest_of topic h) (s.topics.latest_k
 pub latest_one_held : (h : List Event) (since : ℕ) (rows : Rows) → StandsFor h since rows → (v : ℕ) → list_any (λ w. w.ver == v) (latest h) ≡ true → is_some (number_at v rows.topics.versions) ≡ true
 latest_one_held h since rows s v k =
     any_then (λ (w : Version). Unit {0} × (is_version w.ver (latest_of w.topic h) ≡ true)) (λ w. w.ver == v) (is_some (number_at v rows.topics.versions) ≡ true)
-    (λ w a c. ap (λ n. is_some (number_at n rows.topics.versions)) (sym (eqb-true w.ver v c)) ∙ latest_held h since rows s w.topic w.ver a.1)
-    (latest h) (all_filter_with (λ _. Unit {0}) (λ w. is_version w.ver (latest_of w.topic h)) (versions h) (all_from (λ _. Unit {0}) (λ _. tt) (versions h))) k
+    (λ w a e. subst (λ n. is_some (number_at n rows.topics.versions) ≡ true) (eqb-true w.ver v e) (latest_held h since rows s w.topic w.ver a.1))
+    (latest h) (all_filter_with (λ (w : Version). Unit {0}) (λ w. is_version w.ver (latest_of w.topic h)) (versions h) (all_from (λ (w : Version). Unit {0}) (λ w. tt) (versions h))) k
 
 kept_held : (h : List Event) (since t : ℕ) (rows : Rows) (topic : List ℕ) → StandsFor h since rows → since ≤ t → (v : Version) → stays_kept h t topic v ≡ true → is_some (number_at v.ver rows.topics.versions) ≡ true
 kept_held h since t rows topic s later v k = by (list_any (λ p. p.version.ver == v.ver) (owed h t)) refl k

@@ -30,9 +30,9 @@ one_serial : (h : List Event) (topic : List ℕ) → AllByRecursion (HasSerial t
 one_serial h topic =
     all_weaker (λ (p : Ping). Unit {0} × (is_owed_fetch h p ≡ true)) (HasSerial topic (serial_of (find (of_topic topic) (pings h))))
     (λ p k same.
-        at_serial p.serial (find (of_topic topic) (pings h))
-        (ap (λ x. is_ping_at p.serial (find (λ q. bytes_eq q.topic x) (pings h))) (sym (bytes_are p.topic topic same))
-        ∙ first h p k.1))
+    at_serial p.serial (find (of_topic topic) (pings h))
+    (ap (λ x. is_ping_at p.serial (find (λ q. bytes_eq q.topic x) (pings h))) (sym (bytes_are p.topic topic same))
+    ∙ first h p k.1))
     (fetches h) (all_filter_with (λ _. Unit {0}) (is_owed_fetch h) (pings h) (all_from (λ _. Unit {0}) (λ _. tt) (pings h)))
   where
     first : (h : List Event) (p : Ping) → is_owed_fetch h p ≡ true → is_ping_at p.serial (find (λ q. bytes_eq q.topic p.topic) (pings h)) ≡ true
@@ -52,27 +52,24 @@ module _ (topic : List ℕ) (test : ℕ → Bool) (s : ℕ) where
 
   no_other : test s ≡ false → (ps : List Ping) → AllByRecursion (HasSerial topic s) ps → list_any both ps ≡ false
   no_other k [] a = refl
-  no_other k (p ∷ ps) a = by (of_topic topic p) refl
+  no_other k (p ∷ ps) a = by (of_topic topic p) refl (no_other k ps a.1)
     where
-      by : (b : Bool) → of_topic topic p ≡ b → list_any both (p ∷ ps) ≡ false
-      by true e =
-          ap (λ x. (x && test p.serial) || list_any both ps) e
-          ∙ ap (λ x. x || list_any both ps) (ap test (a.0 e) ∙ k)
-          ∙ no_other k ps a.1
-      by false e = ap (λ x. (x && test p.serial) || list_any both ps) e ∙ no_other k ps a.1
+      by : (b : Bool) → of_topic topic p ≡ b → list_any both ps ≡ false → list_any both (p ∷ ps) ≡ false
+      by true e r = ap (λ x. (x && test p.serial) || list_any both ps) e ∙ ap (λ x. x || list_any both ps) (ap test (a.0 e) ∙ k) ∙ r
+      by false e r = ap (λ x. (x && test p.serial) || list_any both ps) e ∙ r
 
   any_first : (ps : List Ping) → AllByRecursion (HasSerial topic s) ps → list_any both ps ≡ of_serial test (option_map (λ (p : Ping). p.serial) (find (of_topic topic) ps))
   any_first [] a = refl
-  any_first (p ∷ ps) a = by (of_topic topic p) refl
+  any_first (p ∷ ps) a = by (of_topic topic p) refl (any_first ps a.1)
     where
       first : of_topic topic p ≡ true → (b : Bool) → test s ≡ b → (test p.serial || list_any both ps) ≡ test p.serial
       first e true k = let q : test p.serial ≡ true = ap test (a.0 e) ∙ k in ap (λ x. x || list_any both ps) q ∙ sym q
       first e false k = ap (λ x. test p.serial || x) (no_other k ps a.1) ∙ or-false (test p.serial)
 
-      by : (b : Bool) → of_topic topic p ≡ b
+      by : (b : Bool) → of_topic topic p ≡ b → list_any both ps ≡ of_serial test (option_map (λ (p : Ping). p.serial) (find (of_topic topic) ps))
           → ((b && test p.serial) || list_any both ps) ≡ of_serial test (option_map (λ (p : Ping). p.serial) (cond b (Some p) (find (of_topic topic) ps)))
-      by true e = first e (test s) refl
-      by false e = any_first ps a.1
+      by true e r = first e (test s) refl
+      by false e r = r
 
 -- among the owed fetches, those of one topic are one
 pub any_fetch :

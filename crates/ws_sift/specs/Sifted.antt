@@ -18,9 +18,9 @@ abbrev pub is_kept_other : List Event → ℕ → Event → Bool
 is_kept_other h t e = not (is_any_push e.what) && keeps h t e e.what
 
 -- the tables stand for the legal history by t, and these are the versions and leases that are kept then
-pub record ArePast (h : List Event) (since t : ℕ) (tables : TableRows) (kept : KeptRows) : Type 0 where
-  pub stands : StandsFor h since tables
-  pub kept : AreKept h t kept
+pub record ArePast (h : List Event) (since t : ℕ) (rows : TableRows) (numbers : KeptRows) : Type 0 where
+  pub stands : StandsFor h since rows
+  pub kept : AreKept h t numbers
   pub legal : Legal h
   pub in_time : since ≤ t
 

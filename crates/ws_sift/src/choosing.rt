@@ -24,10 +24,17 @@ fn is_denied(tables: &Tables, n: u64) -> bool
     tables.denied_intent(n).is_some()
 }
 
+// Whether an intent is pending, or its notice is owed.
+fn is_awaited(tables: &Tables, n: u64) -> bool
+    ensures { (h : List Event) (since : ℕ) → StandsFor h since tables.now → result ≡ (is_among (pending h) n || is_among (notices h) n) }
+{
+    is_pending(tables, n) || is_denied(tables, n)
+}
+
 fn is_kept_request(tables: &Tables, kept: &Kept, n: u64) -> bool
     ensures { (h : List Event) (since t : ℕ) → ArePast h since t tables.now kept.now → result ≡ (is_among (pending h) n || is_among (notices h) n || member n (kept_leases h t)) }
 {
-    is_pending(tables, n) || is_denied(tables, n) || kept.has_lease(n)
+    is_awaited(tables, n) || kept.has_lease(n)
 }
 
 // Whether a ping is the latest of a topic whose fetch is owed.

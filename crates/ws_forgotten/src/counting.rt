@@ -1,0 +1,30 @@
+// The pairs that aren't kept.
+ghost use Rattle.std.specs.Prelude.{◌≡◌};
+ghost use Rattle.ws_forgotten.specs.Forgotten.{end_of, with_forgotten};
+
+use ws_fate::{Fates, Standing, Totals};
+use ws_kept::Kept;
+use ws_model::Cause;
+
+/// These numbers with the pairs that aren't kept, each by what became of it. It takes no memory.
+pub(crate) fn with_forgotten(before: Totals, fates: &Fates, kept: &Kept) -> Totals
+    ensures { result ≡ with_forgotten before kept.now fates.now.pairs }
+{
+    let mut totals = before;
+    for (key, standing) in fates.pairs() {
+        if !kept.has_pair(key.1, key.0) {
+            totals.add(end_of(*standing));
+        }
+    }
+    totals
+}
+
+/// What became of a pair that isn't kept. An open one isn't owed, or it would be kept: it has expired.
+fn end_of(standing: Standing) -> Standing
+    ensures { result ≡ end_of standing }
+{
+    match standing {
+        Standing::Open => Standing::Ended(Cause::Expired),
+        _ => standing,
+    }
+}

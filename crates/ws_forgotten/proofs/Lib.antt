@@ -1,0 +1,4 @@
+pub mod Rows
+pub mod OneByOne
+pub mod Told
+pub mod Shown

@@ -1,5 +1,8 @@
 // The pairs that aren't kept.
 ghost use Rattle.std.specs.Prelude.{◌≡◌};
+ghost use Rattle.std.specs.List.Sorted.{IsStrictlySortedBy};
+ghost use Rattle.std.specs.Map.{keys_of};
+ghost use Rattle.ws_fate.specs.Rows.{pair_order};
 ghost use Rattle.ws_forgotten.specs.Forgotten.{end_of, with_forgotten};
 
 use ws_fate::{Fates, Standing, Totals};
@@ -7,8 +10,9 @@ use ws_kept::Kept;
 use ws_model::Cause;
 
 /// These numbers with the pairs that aren't kept, each by what became of it. It takes no memory.
-pub(crate) fn with_forgotten(before: Totals, fates: &Fates, kept: &Kept) -> Totals
-    ensures { result ≡ with_forgotten before kept.now fates.now.pairs }
+pub fn with_forgotten(before: Totals, fates: &Fates, kept: &Kept) -> Totals
+    ensures counted { result ≡ with_forgotten before kept.now fates.now.pairs }
+    ensures ordered { IsStrictlySortedBy pair_order (keys_of fates.now.pairs) }
 {
     let mut totals = before;
     for (key, standing) in fates.pairs() {

@@ -1,8 +1,5 @@
 //! What a compaction puts before the events that it keeps: how many pairs it and earlier ones forgot.
 #![tactic(auto)]
 
-mod before;
-mod counting;
-mod head;
-
-pub use head::tally;
+pub mod before;
+pub mod counting;

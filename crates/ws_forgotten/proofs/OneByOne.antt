@@ -1,5 +1,5 @@
 -- Pairs that aren't kept, counted one by one.
-use Rattle.std.proofs.Common.{◌≡◌, ℕ, suc, ◌+◌, ◌≤◌, Bool, true, false, cond, not, ◌&&◌, List, ◌∷◌, refl, ap, ◌∙◌, length, arith}
+use Rattle.std.proofs.Common.{◌≡◌, ℕ, suc, ◌+◌, ◌≤◌, Bool, true, false, cond, not, ◌&&◌, List, [], ◌∷◌, refl, ap, ◌∙◌, length, arith}
 use Rattle.std.specs.Prelude.{filter, min}
 use Rattle.ws_model.specs.declared.fate.Cause.TheVariants.{Expired, Unsubscribed, Replaced, Gone, Spent, Revoked}
 use Rattle.ws_model.specs.Account.{most}
@@ -7,7 +7,7 @@ use Rattle.ws_laws.specs.Steps.{more}
 use Rattle.ws_fate.specs.declared.totals.Standing.{Standing}
 use Rattle.ws_fate.specs.declared.totals.Standing.TheVariants.{Open, Answered, Ended}
 use Rattle.ws_fate.specs.declared.totals.Totals.{Totals}
-use Rattle.ws_fate.specs.Totals.{bump, with_one}
+use Rattle.ws_fate.specs.Totals.{bump, none, with_one}
 use Rattle.ws_kept.specs.Rows.{Rows as KeptRows}
 use Rattle.ws_forgotten.specs.Forgotten.{end_of, is_forgotten, is_kept_key, is_so, number_forgotten, with_forgotten}
 use Rattle.ws_forgotten.proofs.Rows.{Entry}
@@ -95,3 +95,41 @@ forgotten_counted c kept e es k =
       revoked = more c.revoked (one_counted (Ended Revoked) kept e es k j);
     })
     ∙ bumped c (end_of e.1) (λ s. number_forgotten s kept es)
+
+-- ---- numbers that a count can say
+
+pub record AreWithin (c : Totals) : Type 0 where
+  pub answered : c.answered ≤ most
+  pub expired : c.expired ≤ most
+  pub unsubscribed : c.unsubscribed ≤ most
+  pub replaced : c.replaced ≤ most
+  pub gone : c.gone ≤ most
+  pub spent : c.spent ≤ most
+  pub revoked : c.revoked ≤ most
+
+no_less : (m : ℕ) → 0 ≤ m
+no_less m = omega arith
+
+pub none_within : AreWithin none
+none_within = record { answered = no_less most; expired = no_less most; unsubscribed = no_less most; replaced = no_less most; gone = no_less most; spent = no_less most; revoked = no_less most }
+
+at_most : (n m : ℕ) → min (n + 1) m ≤ m
+at_most n m = omega arith
+
+pub one_within : (c : Totals) (s : Standing) → AreWithin c → AreWithin (with_one s c)
+one_within c Open w = w
+one_within c Answered w = record { answered = at_most c.answered most; expired = w.expired; unsubscribed = w.unsubscribed; replaced = w.replaced; gone = w.gone; spent = w.spent; revoked = w.revoked }
+one_within c (Ended Expired) w = record { answered = w.answered; expired = at_most c.expired most; unsubscribed = w.unsubscribed; replaced = w.replaced; gone = w.gone; spent = w.spent; revoked = w.revoked }
+one_within c (Ended Unsubscribed) w = record { answered = w.answered; expired = w.expired; unsubscribed = at_most c.unsubscribed most; replaced = w.replaced; gone = w.gone; spent = w.spent; revoked = w.revoked }
+one_within c (Ended Replaced) w = record { answered = w.answered; expired = w.expired; unsubscribed = w.unsubscribed; replaced = at_most c.replaced most; gone = w.gone; spent = w.spent; revoked = w.revoked }
+one_within c (Ended Gone) w = record { answered = w.answered; expired = w.expired; unsubscribed = w.unsubscribed; replaced = w.replaced; gone = at_most c.gone most; spent = w.spent; revoked = w.revoked }
+one_within c (Ended Spent) w = record { answered = w.answered; expired = w.expired; unsubscribed = w.unsubscribed; replaced = w.replaced; gone = w.gone; spent = at_most c.spent most; revoked = w.revoked }
+one_within c (Ended Revoked) w = record { answered = w.answered; expired = w.expired; unsubscribed = w.unsubscribed; replaced = w.replaced; gone = w.gone; spent = w.spent; revoked = at_most c.revoked most }
+
+same_within : (n m : ℕ) → n ≤ m → min (n + 0) m ≡ n
+same_within n m le = omega arith
+
+-- nothing more is counted
+pub none_left : (c : Totals) (kept : KeptRows) → AreWithin c → with_forgotten c kept [] ≡ c
+none_left c kept w = λ j.
+    record { answered = same_within c.answered most w.answered j; expired = same_within c.expired most w.expired j; unsubscribed = same_within c.unsubscribed most w.unsubscribed j; replaced = same_within c.replaced most w.replaced j; gone = same_within c.gone most w.gone j; spent = same_within c.spent most w.spent j; revoked = same_within c.revoked most w.revoked j }

@@ -3,18 +3,19 @@ ghost use Rattle.std.specs.Prelude.{◌≡◌};
 ghost use Rattle.std.specs.List.Sorted.{IsStrictlySortedBy};
 ghost use Rattle.std.specs.Map.{keys_of};
 ghost use Rattle.ws_fate.specs.Rows.{pair_order};
+ghost use Rattle.ws_fate.specs.Totals.{none};
 ghost use Rattle.ws_forgotten.specs.Forgotten.{end_of, with_forgotten};
 
 use ws_fate::{Fates, Standing, Totals};
 use ws_kept::Kept;
 use ws_model::Cause;
 
-/// These numbers with the pairs that aren't kept, each by what became of it. It takes no memory.
-pub fn with_forgotten(before: Totals, fates: &Fates, kept: &Kept) -> Totals
-    ensures counted { result ≡ with_forgotten before kept.now fates.now.pairs }
+/// How many pairs aren't kept, by what became of them. It takes no memory.
+pub fn newly_forgotten(fates: &Fates, kept: &Kept) -> Totals
+    ensures counted { result ≡ with_forgotten none kept.now fates.now.pairs }
     ensures ordered { IsStrictlySortedBy pair_order (keys_of fates.now.pairs) }
 {
-    let mut totals = before;
+    let mut totals = Totals::none();
     for (key, standing) in fates.pairs() {
         if !kept.has_pair(key.1, key.0) {
             totals.add(end_of(*standing));

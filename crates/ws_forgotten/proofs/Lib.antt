@@ -2,3 +2,4 @@ pub mod Rows
 pub mod OneByOne
 pub mod Told
 pub mod Shown
+pub mod Whole

@@ -61,3 +61,16 @@ with_forgotten c kept pairs =
       spent = more c.spent (number_forgotten (Ended Spent) kept pairs);
       revoked = more c.revoked (number_forgotten (Ended Revoked) kept pairs);
     }
+
+-- of each the sum, as far as a number can say it
+abbrev pub sums : Totals → Totals → Totals
+sums a b =
+    record {
+      answered = more a.answered b.answered;
+      expired = more a.expired b.expired;
+      unsubscribed = more a.unsubscribed b.unsubscribed;
+      replaced = more a.replaced b.replaced;
+      gone = more a.gone b.gone;
+      spent = more a.spent b.spent;
+      revoked = more a.revoked b.revoked;
+    }

@@ -6,7 +6,7 @@ use ws_fate::Totals;
 use ws_model::{Event, What};
 
 /// How many pairs earlier compactions forgot: what the Tally says that the log begins with.
-pub fn forgotten_before(log: &[Event]) -> Totals
+pub(crate) fn forgotten_before(log: &[Event]) -> Totals
     ensures { result ≡ told_first log.now }
 {
     match log.first() {

@@ -1,5 +1,10 @@
 //! What a compaction puts before the events that it keeps: how many pairs it and earlier ones forgot.
 #![tactic(auto)]
 
-pub mod before;
-pub mod counting;
+mod before;
+mod counting;
+mod head;
+#[cfg(test)]
+mod tests;
+
+pub use head::tally;

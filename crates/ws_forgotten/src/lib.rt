@@ -4,7 +4,5 @@
 mod before;
 mod counting;
 mod head;
-#[cfg(test)]
-mod tests;
 
 pub use head::tally;

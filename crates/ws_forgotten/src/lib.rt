@@ -4,5 +4,7 @@
 mod before;
 mod counting;
 mod head;
+#[cfg(test)]
+mod tests;
 
 pub use head::tally;

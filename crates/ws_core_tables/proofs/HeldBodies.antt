@@ -19,10 +19,10 @@ use Rattle.ws_model.specs.Fate.{Pair}
 use Rattle.ws_model.specs.Legal.{Legal, is_allowed}
 use Rattle.ws_model.specs.Moment.{last_version}
 use Rattle.ws_model.specs.Pairs.{owed}
-use Rattle.ws_model.specs.Versions.{is_version, latest_of, versions, versions_of}
+use Rattle.ws_model.specs.Versions.{is_version, latest, latest_of, versions, versions_of}
 use Rattle.ws_model.specs.View.{owed_push}
 use Rattle.ws_laws.proofs.Known.{allowed, itself}
-use Rattle.ws_laws.proofs.ListLaws.{all_find, all_from, all_weaker}
+use Rattle.ws_laws.proofs.ListLaws.{all_filter_with, all_find, all_from, all_weaker, any_then}
 use Rattle.ws_laws.proofs.Topics.{versions_le}
 use Rattle.ws_topic.specs.Besides.{is_besides, bodies_besides}
 use Rattle.ws_topic.specs.ByTopic.{at_topic}
@@ -226,6 +226,12 @@ latest_held h since rows s topic v k = by (latest_of topic h) (s.topics.latest_k
     by : (o : Option Version) → IfSome o (λ w. number_at w.ver rows.topics.versions ≡ Some w) → is_version v o ≡ true → is_some (number_at v rows.topics.versions) ≡ true
     by None f m = absurd (false≢true m)
     by (Some w) f m = ap (λ z. is_some (number_at z rows.topics.versions)) (sym (eqb-true w.ver v m)) ∙ ap is_some f
+
+pub latest_one_held : (h : List Event) (since : ℕ) (rows : Rows) → StandsFor h since rows → (v : ℕ) → list_any (λ w. w.ver == v) (latest h) ≡ true → is_some (number_at v rows.topics.versions) ≡ true
+latest_one_held h since rows s v k =
+    any_then (λ (w : Version). Unit {0} × (is_version w.ver (latest_of w.topic h) ≡ true)) (λ w. w.ver == v) (is_some (number_at v rows.topics.versions) ≡ true)
+    (λ w a e. subst (λ n. is_some (number_at n rows.topics.versions) ≡ true) (eqb-true w.ver v e) (latest_held h since rows s w.topic w.ver a.1))
+    (latest h) (all_filter_with (λ (w : Version). Unit {0}) (λ w. is_version w.ver (latest_of w.topic h)) (versions h) (all_from (λ (w : Version). Unit {0}) (λ w. tt) (versions h))) k
 
 kept_held : (h : List Event) (since t : ℕ) (rows : Rows) (topic : List ℕ) → StandsFor h since rows → since ≤ t → (v : Version) → stays_kept h t topic v ≡ true → is_some (number_at v.ver rows.topics.versions) ≡ true
 kept_held h since t rows topic s later v k = by (list_any (λ p. p.version.ver == v.ver) (owed h t)) refl k

@@ -107,10 +107,11 @@ impl Tables {
         self.deliveries.owed(t)
     }
 
-    /// The version of a number, where it is held, as each owed one is.
+    /// The version of a number, where it is held, as each owed one is, and the latest one of each topic.
     pub fn version(&self, ver: u64) -> Option<&Version>
         ensures stands { (h : List Event) (since : ℕ) → StandsFor h since self.now → IfSome (option_copied result) (λ v. find (λ w. w.ver == ver) (versions h) ≡ Some v) }
         ensures owed { (h : List Event) (since t : ℕ) → StandsFor h since self.now → since ≤ t → list_any (λ p. p.version.ver == ver) (owed h t) ≡ true → IsSome result }
+        ensures latest { (h : List Event) (since : ℕ) → StandsFor h since self.now → list_any (λ v. v.ver == ver) (latest h) ≡ true → IsSome result }
     {
         self.topics.version(ver)
     }

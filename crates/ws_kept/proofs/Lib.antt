@@ -1,0 +1,4 @@
+mod First
+mod Latest
+mod Lists
+mod Owed

@@ -47,11 +47,11 @@ same_itself i = and_from _ _ (bytes_same i.topic) (bytes_same i.callback)
 -- a test of an intent that was asked for, of the event that asked for it
 asked_has : (q : What → Bool) (h : List Event) → list_any (λ i. q (Asked i)) (asked h) ≡ true → has q h ≡ true
 asked_has q [] k = k
-asked_has q (e ∷ h) k = one e.what k
+asked_has q (e ∷ h) k = one e.what k (asked_has q h)
   where
-    one : (w : What) → list_any (λ i. q (Asked i)) (intents_of w ++ asked h) ≡ true → (q w || has q h) ≡ true
-    one (Asked i) k = elim (or_cases (q (Asked i)) (list_any (λ j. q (Asked j)) (asked h)) k) [ inl a ↦ or_left _ _ a | inr a ↦ or_right (q (Asked i)) _ (asked_has q h a) ]
-    one w k = or_right (q w) _ (asked_has q h k)
+    one : (w : What) → list_any (λ i. q (Asked i)) (intents_of w ++ asked h) ≡ true → (list_any (λ i. q (Asked i)) (asked h) ≡ true → has q h ≡ true) → (q w || has q h) ≡ true
+    one (Asked i) k f = elim (or_cases (q (Asked i)) (list_any (λ j. q (Asked j)) (asked h)) k) [ inl a ↦ or_left _ _ a | inr a ↦ or_right (q (Asked i)) _ (f a) ]
+    one w k f = or_right (q w) _ (f k)
 
 -- an event asks for no number that was confirmed
 asked_before : (w : What) (t : ℕ) (h : List Event) (n : ℕ) (i : Intent) → is_allowed w t h ≡ true → n ≤ last_intent h → find (λ j. j.n == n) (intents_of w ++ asked h) ≡ Some i → find (λ j. j.n == n) (asked h) ≡ Some i

@@ -28,11 +28,11 @@ use Rattle.ws_kept.proofs.Lists.{any_log, any_one, both_ways, each_any}
 
 has_version : (h : List Event) (v : ℕ) → list_any (λ w. w.ver == v) (versions h) ≡ true → has (is_fetched v) h ≡ true
 has_version [] v k = k
-has_version (e ∷ h) v k = one e.what k
+has_version (e ∷ h) v k = one e.what k (has_version h v)
   where
-    one : (w : What) → list_any (λ x. x.ver == v) (versions_of w ++ versions h) ≡ true → (is_fetched v w || has (is_fetched v) h) ≡ true
-    one (Fetched x) k = elim (or_cases (x.ver == v) (list_any (λ y. y.ver == v) (versions h)) k) [ inl a ↦ or_left _ _ a | inr a ↦ or_right (x.ver == v) _ (has_version h v a) ]
-    one w k = or_right (is_fetched v w) _ (has_version h v k)
+    one : (w : What) → list_any (λ x. x.ver == v) (versions_of w ++ versions h) ≡ true → (list_any (λ x. x.ver == v) (versions h) ≡ true → has (is_fetched v) h ≡ true) → (is_fetched v w || has (is_fetched v) h) ≡ true
+    one (Fetched x) k f = elim (or_cases (x.ver == v) (list_any (λ y. y.ver == v) (versions h)) k) [ inl a ↦ or_left _ _ a | inr a ↦ or_right (x.ver == v) _ (f a) ]
+    one w k f = or_right (is_fetched v w) _ (f k)
 
 module _ (h : List Event) (v : ℕ) where
   given : (w : What) → gives_latest h v w ≡ true → is_latest h v ≡ true

@@ -168,22 +168,25 @@ module _ (h : List Event) (t : ℕ) (versions : ℕ → Bool) (l : Legal h) (le 
             (there (λ r. (r.lease.intent.n == p.lease.intent.n) && ((r.version.ver == p.version.ver) && same_pair x.intent r.lease.intent)) (and_from _ _ (itself p.lease.intent.n) (and_from _ _ (itself p.version.ver) s))));
       }
 
+  abbrev Turned : Pair → Type 0
+  Turned p = (WentOver h p → fate h p t ≡ HasEnded Replaced) × ((r : Pair → Bool) → r p ≡ true → list_any r (pairs h) ≡ true)
+
+  all_turned : AllByRecursion Turned (owed g e.t)
+  all_turned =
+      all_filter Turned (λ p. is_owed (fate g p e.t)) (pairs g)
+      (all_behind Turned (e ∷ []) g
+      (all_behind Turned c (e ∷ g)
+      (subst (λ f. AllByRecursion Turned (pairs f)) q
+      (both_true (λ p. WentOver h p → fate h p t ≡ HasEnded Replaced) (λ p. (r : Pair → Bool) → r p ≡ true → list_any r (pairs h) ≡ true) (pairs h) (taken_is_replaced h t l le) (each_any (pairs h))))))
+
   forth : list_any goes (owed g e.t) ≡ true → went h t versions m.intent.n ≡ true
   forth k =
-      any_then (λ p. ((WentOver h p → fate h p t ≡ HasEnded Replaced) × ((r : Pair → Bool) → r p ≡ true → list_any r (pairs h) ≡ true)) × ((r : Pair → Bool) → r p ≡ true → list_any r (owed g e.t) ≡ true)) goes (went h t versions m.intent.n ≡ true)
+      any_then (λ p. Turned p × ((r : Pair → Bool) → r p ≡ true → list_any r (owed g e.t) ≡ true)) goes (went h t versions m.intent.n ≡ true)
       (λ p a b.
       let parts = and_parts (p.lease.intent.n == m.intent.n) (versions p.version.ver && same_pair x.intent p.lease.intent) b in
       let rest = and_parts (versions p.version.ver) (same_pair x.intent p.lease.intent) parts.1 in
       a.0.1 test (and_from _ _ parts.0 (and_from _ _ rest.0 (ap (λ f. is_replaced (standing f)) (a.0.0 (over_taken p a.1 rest.1))))))
-      (owed g e.t)
-      (both_true (λ p. (WentOver h p → fate h p t ≡ HasEnded Replaced) × ((r : Pair → Bool) → r p ≡ true → list_any r (pairs h) ≡ true)) (λ p. (r : Pair → Bool) → r p ≡ true → list_any r (owed g e.t) ≡ true) (owed g e.t)
-      (all_filter (λ p. (WentOver h p → fate h p t ≡ HasEnded Replaced) × ((r : Pair → Bool) → r p ≡ true → list_any r (pairs h) ≡ true)) (λ p. is_owed (fate g p e.t)) (pairs g)
-      (all_behind (λ p. (WentOver h p → fate h p t ≡ HasEnded Replaced) × ((r : Pair → Bool) → r p ≡ true → list_any r (pairs h) ≡ true)) (e ∷ []) g
-      (all_behind (λ p. (WentOver h p → fate h p t ≡ HasEnded Replaced) × ((r : Pair → Bool) → r p ≡ true → list_any r (pairs h) ≡ true)) c (e ∷ g)
-      (subst (λ f. AllByRecursion (λ p. (WentOver h p → fate h p t ≡ HasEnded Replaced) × ((r : Pair → Bool) → r p ≡ true → list_any r (pairs h) ≡ true)) (pairs f)) q
-      (both_true (λ p. WentOver h p → fate h p t ≡ HasEnded Replaced) (λ p. (r : Pair → Bool) → r p ≡ true → list_any r (pairs h) ≡ true) (pairs h) (taken_is_replaced h t l le) (each_any (pairs h))))))
-      (each_any (owed g e.t)))
-      k
+      (owed g e.t) (both_true Turned (λ p. (r : Pair → Bool) → r p ≡ true → list_any r (owed g e.t) ≡ true) (owed g e.t) all_turned (each_any (owed g e.t))) k
 
   -- of a pair that went over
   ends_m : is_none (end_by e.what (confirmed_intent e.what g) m) ≡ false

@@ -103,7 +103,7 @@ module _ (g : List Event) (t : ℕ) (x : Lease) (l : Legal g) (le : last_time g 
     as_any : member n (map (λ (p : Pair). p.lease.intent.n) (filter moves (owed g t))) ≡ list_any (λ p. moves p && (p.lease.intent.n == n)) (owed g t)
     as_any = any-map (λ (p : Pair). p.lease.intent.n) n (filter moves (owed g t)) ∙ any_filter (λ (p : Pair). p.lease.intent.n == n) moves (owed g t)
 
-    never : (a b : Bool) → b ≡ false → ∀ (c : Bool) → ((a && b) && c) ≡ false
+    never : (a b : Bool) → b ≡ false → (c : Bool) → ((a && b) && c) ≡ false
     never true b k c = ap (λ z. z && c) k
     never false b k c = refl
 

@@ -4,7 +4,7 @@ ghost use Rattle.ws_model.specs.declared.event.Event.{Event};
 ghost use Rattle.ws_model.specs.Legal.{Legal};
 ghost use Rattle.ws_fate.specs.Stands.{AreShown};
 ghost use Rattle.ws_core_tables.specs.Stands.{StandsFor as TablesStand};
-ghost use Rattle.ws_kept.specs.Stands.{AreKept, log_of, renewals};
+ghost use Rattle.ws_kept.specs.Stands.{AreKept, log_of, renewals as renewals_of};
 
 use crate::Kept;
 use crate::leases::{first_kept, with_replaced};
@@ -30,8 +30,10 @@ impl Kept {
     ) -> Result<Kept, NoMemory>
         requires in_time { t < 2 ^ 48 }
         ensures stands { (h : List Event) (since : ℕ) → TablesStand h since tables.now → AreShown h since fates.now →
-            others.now ≡ log_of h → renewals.now ≡ reverse (renewals h) → Legal h → since ≤ t → IfOk result (AreKept h t) }
+            others.now ≡ log_of h → renewals.now ≡ reverse (renewals_of h) → Legal h → since ≤ t → IfOk result (AreKept h t) }
     {
+        // That each pair stands once is known from the number of all.
+        let _ = fates.count();
         let owed = owed_versions(alloc, tables, fates, t)?;
         let versions = with_latest(tables, others, owed)?;
         let first = first_kept(alloc, tables, others, t)?;

@@ -11,6 +11,7 @@ ghost use Rattle.ws_model.specs.Legal.{Legal};
 ghost use Rattle.ws_core_tables.specs.Stands.{StandsFor, is_number};
 ghost use Rattle.ws_kept.specs.Finding.{gives_lease, goes_on, is_leased, is_noticed, is_replaced, went_over, with_old_ones};
 
+use crate::numbers::add;
 use std::alloc::Global;
 use std::collections::BTreeSet;
 use ws_core_tables::Tables;
@@ -76,16 +77,6 @@ pub(crate) fn first_kept(
         add(&mut leases, given_by(tables, event, t))?;
     }
     Ok(leases)
-}
-
-/// Adds a number, where there is one.
-fn add(numbers: &mut BTreeSet<u64>, number: Option<u64>) -> Result<(), NoMemory>
-    ensures { OnOk result ((n : ℕ) → contains nat_cmp numbers.new n ≡ (contains nat_cmp numbers.old n || is_number number n)) }
-{
-    if let Some(number) = number {
-        numbers.insert(number)?;
-    }
-    Ok(())
 }
 
 // ---- leases that were replaced

@@ -4,6 +4,7 @@
 mod finding;
 mod kept;
 mod leases;
+mod numbers;
 #[cfg(test)]
 mod tests;
 mod versions;

@@ -100,8 +100,3 @@ latest_found h n v l found =
     let is : w ≡ v = cc in
     sym (λ i. is_version (number i) (latest_of (is i).topic h)) ∙ a.1)
     (latest h) (all_filter_with (IsTold (versions h)) (λ w. is_version w.ver (latest_of w.topic h)) (versions h) (versions_told h l)))
-
--- where none is held, none is the latest
-pub unheld : (h : List Event) (n : ℕ) (o : Option Version) → ◌≡◌ {A = Option Version} None o → (is_latest h n ≡ true → IsSome o) → is_latest h n ≡ false
-unheld h n None k f = false_from_ne_true _ (λ r. false≢true (f r))
-unheld h n (Some v) k f = absurd (cc)

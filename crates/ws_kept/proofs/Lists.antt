@@ -1,5 +1,5 @@
 -- Tests over lists, sets of numbers, and the log of a history.
-use Rattle.std.proofs.Common.{◌≡◌, ℕ, Bool, true, false, cond, not, ◌&&◌, ◌||◌, List, [], ◌∷◌, ◌++◌, refl, ap, sym, ◌∙◌, subst, arith, inl, inr}
+use Rattle.std.proofs.Common.{◌≡◌, ℕ, ◌+◌, ◌≤◌, ◌<◌, Bool, true, false, cond, not, ◌&&◌, ◌||◌, List, [], ◌∷◌, ◌++◌, refl, ap, sym, ◌∙◌, subst, arith, drop, length, get_or, inl, inr}
 use Rattle.std.specs.Prelude.{filter, map, reverse, ◌==◌}
 use Rattle.std.specs.List.{AllByRecursion, list_any}
 use Rattle.std.specs.BTreeMap.{is_at}
@@ -7,7 +7,7 @@ use Rattle.std.specs.BTreeSet.{BTreeSet, contains}
 use Rattle.std.specs.Ordering.{nat_cmp}
 use Rattle.std.proofs.lemmas.Bool.{and_parts, false≢true, not-true, or_cases, or_left, or_right}
 use Rattle.std.proofs.lemmas.Bool.Decides.{nat_tests}
-use Rattle.std.proofs.lemmas.List.{reverse-append}
+use Rattle.std.proofs.lemmas.List.{at_drop_all, drop_more, reverse-append}
 use Rattle.std.proofs.lemmas.List.Folds.{list_any-append}
 use Rattle.ws_model.specs.declared.event.Event.{Event}
 use Rattle.ws_model.specs.declared.event.What.{What}
@@ -70,6 +70,29 @@ one_done new old one rest all a b = by old one rest all (ap (λ x. x || rest) a)
 pub all_done : (b c : Bool) → (b || false) ≡ c → b ≡ c
 all_done true c k = k
 all_done false c k = k
+
+-- over a slice
+pub next_done : {X : Type 0} (q : X → Bool) (xs : List X) (i : ℕ) (x : X) (new old all : Bool) → i < length xs → x ≡ get_or xs i x → new ≡ (old || q x) → (old || list_any q (drop i xs)) ≡ all → (new || list_any q (drop (i + 1) xs)) ≡ all
+next_done q xs i x new old all lt is a b =
+    one_done new old (q x) (list_any q (drop (i + 1) xs)) all a
+    (sym (ap (λ ys. old || list_any q ys) (drop_more xs i x lt ∙ ap (λ y. y ∷ drop (i + 1) xs) (sym is))) ∙ b)
+
+pub end_done : {X : Type 0} (q : X → Bool) (xs : List X) (i : ℕ) (old all : Bool) → length xs ≤ i → (old || list_any q (drop i xs)) ≡ all → old ≡ all
+end_done q xs i old all le b = all_done old all (sym (at_drop_all (λ ys. old || list_any q ys) xs i le) ∙ b)
+
+-- ---- choices
+
+pub and_one : (b x : Bool) → true ≡ x → b ≡ (b && x)
+and_one true x k = k
+and_one false x k = refl
+
+pub and_none : (b x : Bool) → false ≡ x → false ≡ (b && x)
+and_none true x k = k
+and_none false x k = refl
+
+pub never_and : (b x : Bool) → false ≡ b → false ≡ (b && x)
+never_and true x k = absurd (false≢true k)
+never_and false x k = refl
 
 at_number : (n m : ℕ) → is_at (nat_cmp n) m ≡ (m == n)
 at_number n m = grind (arith, nat_tests)

@@ -23,6 +23,6 @@ returns c =
     record {
       stands = λ h since s shown l k v.
           all_done (contains nat_cmp c.loop-pair.versions v) _
-          (sym (ap (λ es. contains nat_cmp c.loop-pair.versions v || list_any (owes h c.args.t v) es) c.in-None.ensures.steps) ∙ c.loop-pair.invariant.so_far h since s k v)
+          (sym (ap (λ es. contains nat_cmp c.loop-pair.versions v || list_any (owes h c.args.t v) es) c.in-None.ensures.steps.0) ∙ c.loop-pair.invariant.so_far h since s k v)
           ∙ owed_found h c.args.t v l c.args.fates.now (λ w n. shown c.args.t w n k);
     }

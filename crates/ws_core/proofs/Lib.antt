@@ -2,3 +2,5 @@ pub mod Following
 pub mod Rooms
 pub mod Log
 pub mod Going
+pub mod SameRooms
+pub mod Keeping

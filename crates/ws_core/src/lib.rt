@@ -9,6 +9,7 @@ mod asking;
 mod births;
 mod committing;
 
+mod keeping;
 mod looking;
 mod settling;
 mod whole;

@@ -125,54 +125,18 @@ few_pass f (e ∷ es) = by (f e) (few_pass f es)
     by true q = omega arith
     by false q = omega arith
 
--- ---- the numbers of a version
-
-key_test : (v w : ℕ) → is_at (nat_cmp v) w ≡ (v == w)
-key_test v w = grind (arith, nat_tests)
-
-same_version : (v w : ℕ) → (v == w) ≡ true → w ≡ v
-same_version v w k = grind (arith, nat_tests)
-
--- the number of a version is changed to this one
-pub updated : (ver x : ℕ) (o : Option ℕ) (old new : List (ℕ × ℕ)) → unwrap_or o 0 ≡ x
-    → ((q : ℕ) → lookup (is_at (nat_cmp q)) new ≡ cond (is_at (nat_cmp ver) q) o (lookup (is_at (nat_cmp q)) old))
-    → (v : ℕ) → number_of v new ≡ cond (ver == v) x (number_of v old)
-updated ver x o old new e updates v = ap (λ z. unwrap_or z 0) (updates v) ∙ by (is_at (nat_cmp ver) v) (key_test ver v)
-  where
-    by : (b : Bool) → b ≡ (ver == v) → unwrap_or (cond b o (lookup (is_at (nat_cmp v)) old)) 0 ≡ cond (ver == v) x (number_of v old)
-    by true k = e ∙ ap (λ c. cond c x (number_of v old)) k
-    by false k = ap (λ c. cond c x (number_of v old)) k
-
-pub one_more : (ver x v : ℕ) (old new : List (ℕ × ℕ)) → x ≡ number_of ver old + 1 → number_of v new ≡ cond (ver == v) x (number_of v old) → number_of v new ≡ number_of v old + cond (ver == v) 1 0
-one_more ver x v old new e k = k ∙ by (ver == v) refl
-  where
-    by : (b : Bool) → (ver == v) ≡ b → cond b x (number_of v old) ≡ number_of v old + cond b 1 0
-    by true q = e ∙ ap (λ w. number_of w old + 1) (sym (same_version ver v q))
-    by false q = omega arith
-
-pub one_less : (ver x v : ℕ) (old new : List (ℕ × ℕ)) → x + 1 ≡ number_of ver old → number_of v new ≡ cond (ver == v) x (number_of v old) → number_of v new + cond (ver == v) 1 0 ≡ number_of v old
-one_less ver x v old new e k = ap (λ z. z + cond (ver == v) 1 0) k ∙ by (ver == v) refl
-  where
-    by : (b : Bool) → (ver == v) ≡ b → cond b x (number_of v old) + cond b 1 0 ≡ number_of v old
-    by true q = e ∙ ap (λ w. number_of w old) (sym (same_version ver v q))
-    by false q = omega arith
-
-pub some_after : (b : Bool) (k : ℕ) (o : Option ℕ) → 0 < k → IfSome o (λ z. 0 < z) → IfSome (cond b (Some k) o) (λ z. 0 < z)
-some_after true k o l q = l
-some_after false k o l q = q
-
-pub some_left : (b : Bool) (o : Option ℕ) → IfSome o (λ z. 0 < z) → IfSome (cond b None o) (λ z. 0 < z)
-some_left true o q = tt
-some_left false o q = q
-
 -- ---- the table's changes
 
-and_true : (b : Bool) → (b && true) ≡ b
-and_true true = refl
-and_true false = refl
+abbrev one_if : Bool → ℕ
+one_if b = cond b 1 0
 
-opened_is : (ver v lease : ℕ) → is_open_of v ((lease, ver), Open) ≡ (ver == v)
-opened_is ver v lease = and_true (ver == v)
+-- an open pair counts for its version
+opened : (ver v lease : ℕ) → one_if (is_open_of v ((lease, ver), Open)) ≡ one_if (ver == v)
+opened ver v lease = by (ver == v)
+  where
+    by : (b : Bool) → one_if (b && true) ≡ one_if b
+    by true = refl
+    by false = refl
 
 -- a pair is born
 pub counted_more : (ver lease : ℕ) (pairs pairs' : List ((ℕ × ℕ) × Standing)) (counts counts' : List (ℕ × ℕ)) → AreCounted pairs counts
@@ -183,7 +147,7 @@ counted_more ver lease pairs pairs' counts counts' counted new inserted more v =
     let m = more v in
     let n = inserted_count (is_open_of v) (lease, ver) Open pairs new in
     let o = ap (λ es. length (filter (is_open_of v) es)) inserted in
-    let p = ap (λ b. cond b 1 0) (opened_is ver v lease) in
+    let p = opened ver v lease in
     omega arith
 
 -- an open pair is taken out
@@ -195,7 +159,7 @@ counted_less ver lease pairs pairs' counts counts' counted there removed less v 
     let m = less v in
     let n = removed_count (is_open_of v) (lease, ver) Open pairs there in
     let o = ap (λ es. length (filter (is_open_of v) es)) removed in
-    let p = ap (λ b. cond b 1 0) (opened_is ver v lease) in
+    let p = opened ver v lease in
     omega arith
 
 -- an open pair comes to stand as it ended
@@ -207,11 +171,11 @@ counted_off ver lease how pairs pairs' counts counts' counted sorted there inser
     let m = less v in
     let n = changed_count (is_open_of v) (lease, ver) Open how pairs sorted there in
     let o = ap (λ es. length (filter (is_open_of v) es)) inserted in
-    let p = ap (λ b. cond b 1 0) (opened_is ver v lease) in
+    let p = opened ver v lease in
     let q = parts (ver == v) (is_open how) in
     omega arith
   where
-    parts : (b c : Bool) → cond (b && not c) 1 0 + cond (b && c) 1 0 ≡ cond b 1 0
+    parts : (b c : Bool) → one_if (b && not c) + one_if (b && c) ≡ one_if b
     parts true true = refl
     parts true false = refl
     parts false c = refl
@@ -221,8 +185,8 @@ pub some_open : (ver lease : ℕ) (pairs : List ((ℕ × ℕ) × Standing)) (cou
 some_open ver lease pairs counts counted there =
     let l = counted ver in
     let n = removed_count (is_open_of ver) (lease, ver) Open pairs there in
-    let p = ap (λ b. cond b 1 0) (opened_is ver ver lease ∙ itself ver) in
+    let p = opened ver ver lease ∙ itself ver in
     omega arith
   where
-    itself : (v : ℕ) → (v == v) ≡ true
+    itself : (v : ℕ) → one_if (v == v) ≡ 1
     itself v = grind (arith, nat_tests)

@@ -23,7 +23,7 @@ use ws_model::{NoMemory, Tally};
 #[derive(Drop)]
 pub struct Fates {
     by_pair: BTreeMap<(u64, u64), Standing>,
-    open: Counts,
+    open_counts: Counts,
     totals: Totals,
 }
 
@@ -35,7 +35,7 @@ impl Model for Fates {
 
     ghost view = { λ s. record { pairs = s.by_pair.entries; totals = s.totals } };
 
-    ghost invariant = { λ s. AreCounted s.by_pair.entries s.open };
+    ghost invariant = { λ s. AreCounted s.by_pair.entries s.open_counts };
 }
 
 impl Fates {
@@ -46,7 +46,7 @@ impl Fates {
     {
         Fates {
             by_pair: BTreeMap::new(alloc),
-            open: Counts::empty(alloc),
+            open_counts: Counts::empty(alloc),
             totals: Totals::none(),
         }
     }
@@ -58,7 +58,7 @@ impl Fates {
     {
         Fates {
             by_pair: BTreeMap::new(alloc),
-            open: Counts::empty(alloc),
+            open_counts: Counts::empty(alloc),
             totals: Totals::of_tally(tally),
         }
     }
@@ -100,7 +100,7 @@ impl Fates {
     pub fn open_of(&self, ver: u64) -> u64
         ensures { result ≡ length (filter (λ e. (e.0.1 == ver) && is_open e.1) self.now.pairs) }
     {
-        self.open.of(ver)
+        self.open_counts.of(ver)
     }
 
     /// How many pairs ended in each way. It takes no memory.
@@ -119,11 +119,11 @@ impl Fates {
     {
         // That a version has few open pairs is known from how many pairs there are.
         let _ = self.by_pair.len();
-        self.open.add(ver)?;
+        self.open_counts.add(ver)?;
         match self.by_pair.insert((lease, ver), Standing::Open) {
             Ok(_) => Ok(()),
             Err(fault) => {
-                self.open.take(ver);
+                self.open_counts.take(ver);
                 Err(fault.into())
             }
         }
@@ -135,8 +135,10 @@ impl Fates {
         ensures look { (v n : ℕ) → standing_at v n self.new ≡ cond (is_here ver lease v n) None (standing_at v n self.old) }
         ensures totals { self.new.totals ≡ self.old.totals }
     {
-        let _ = self.by_pair.remove(&(lease, ver));
-        self.open.take(ver);
+        match self.by_pair.remove(&(lease, ver)) {
+            Some(_) => self.open_counts.take(ver),
+            None => unreachable!(),
+        }
     }
 
     /// Says what became of an open pair, and counts it. It takes no memory.
@@ -147,7 +149,7 @@ impl Fates {
     {
         match self.by_pair.insert((lease, ver), how) {
             Ok(_) => {
-                self.open.end(ver, how);
+                self.open_counts.end(ver, how);
                 self.totals.add(how)
             }
             Err(_) => unreachable!(),

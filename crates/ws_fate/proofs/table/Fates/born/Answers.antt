@@ -1,4 +1,4 @@
-use Rattle.std.proofs.Common.{ap, ◌∙◌, ◌+◌, ◌^◌, ◌≤◌, ◌<◌, arith}
+use Rattle.std.proofs.Common.{ap, ◌∙◌, arith}
 use Rattle.std.specs.Prelude.{cond, Some}
 use Rattle.ws_fate.specs.declared.totals.Standing.TheVariants.{Open}
 use Rattle.ws_fate.specs.Counts.{is_open_of}

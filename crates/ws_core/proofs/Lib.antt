@@ -3,4 +3,4 @@ pub mod Rooms
 pub mod Log
 pub mod Going
 pub mod SameRooms
-pub mod Keeping
+pub mod AllKept

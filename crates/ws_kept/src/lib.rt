@@ -10,3 +10,4 @@ mod tests;
 mod versions;
 
 pub use kept::Kept;
+pub use versions::is_latest;

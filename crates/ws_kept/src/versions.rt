@@ -64,8 +64,8 @@ fn is_latest_of(tables: &Tables, topic: &[u8], ver: u64) -> bool
     }
 }
 
-/// Whether a version is the latest of its topic.
-fn is_latest(tables: &Tables, ver: u64) -> bool
+/// Whether a version is the latest of its topic. It takes no memory.
+pub fn is_latest(tables: &Tables, ver: u64) -> bool
     ensures stands { (h : List Event) (since : ℕ) → StandsFor h since tables.now → Legal h → result ≡ is_latest h ver }
 {
     match tables.version(ver) {

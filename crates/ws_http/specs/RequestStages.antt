@@ -22,15 +22,6 @@ verdict_of (stage.Bad reason sound) raw body = bad reason sound
 abbrev pub HasHead : List ℕ → ℕ → Framing → Type 0
 HasHead raw head framing = Judges (take 16384 raw) (judged.Head head framing)
 
--- whole chunks stand behind the head, up to a place
-pub record HasChunks (raw body : List ℕ) (head at : ℕ) : Type 0 where
-  pub chunks : List Chunk
-  pub after : After (drop head raw) chunks (drop at raw)
-  pub place : at ≡ head + length (print_chunks chunks)
-  pub content : body ≡ chunk_data chunks
-  pub inside : at ≤ length raw
-  pub small : length body ≤ at
-
 -- what a stage says of the bytes is so
 abbrev pub Ready : ℕ → List ℕ → List ℕ → Stage → Type 0
 Ready room raw body stage.Head = body ≡ []

@@ -233,20 +233,6 @@ chunking_begins n raw f h x ex asks =
       limit = omega arith;
     }
 
--- the heads and what of the piece stands behind them are all that came
-pub heads_and_piece : (room start before : ℕ) (raw piece : List ℕ) → raw ≡ take room (take before raw ++ piece) → before ≤ start → start ≤ length raw
-    → take start raw ++ drop (start - before) piece ≡ take before raw ++ piece
-heads_and_piece room start before raw piece took first inside =
-    let old = take before raw in
-    let all = old ++ piece in
-    let long : length old ≡ before = omega (arith, length-take before raw, first, inside) in
-    let near : start ≤ room = omega (arith, inside, ap length took, length-take room all) in
-    let heads : take start raw ≡ old ++ take (start - before) piece =
-    ap (λ (t : List ℕ). take start t) took ∙ take-take start room all near ∙ take_over start old piece (omega (arith, long, first))
-    ∙ ap (λ (j : ℕ). old ++ take (start - j) piece) long in
-    ap (λ (t : List ℕ). t ++ drop (start - before) piece) heads ∙ append_assoc old (take (start - before) piece) (drop (start - before) piece)
-    ∙ ap (λ (t : List ℕ). old ++ t) (take-append-drop (start - before) piece)
-
 -- where no head was whole before, one that ends now ends in the new bytes
 reach_by : (b : Bool) (raw more : List ℕ) (at end : ℕ) → nat_lt end (length raw) ≡ b → at ≤ length raw → Unled raw at → HeadWithin (front (raw ++ more)) at end
     → length raw ≤ end

@@ -8,7 +8,8 @@ ghost use Rattle.ws_http.specs.Requests.{is_headed, IsWhole, Tells, whole};
 use crate::Fed;
 use crate::head::MAX_HEAD;
 use crate::parts::{expects_of, field_of, method_of, target_of};
-use crate::stage::{Stage, again, is_sound, keep, read_on, told};
+use crate::request_next::take_next;
+use crate::stage::{Stage, again, count_of, is_sound, told};
 use std::alloc::Global;
 use std::marker::Model;
 use ws_model::NoMemory;
@@ -19,7 +20,9 @@ use ws_model::NoMemory;
 /// the room.
 #[derive(Drop)]
 pub struct RequestReader {
+    /// The bytes that came; behind the head of a chunked body what is held back of it.
     raw: Vec<u8>,
+    /// The data of a chunked body.
     body: Vec<u8>,
     room: usize,
     stage: Stage,
@@ -74,11 +77,9 @@ impl RequestReader {
         if let Some(answer) = again(self.stage) {
             return answer;
         }
-        let before = self.raw.len();
+        let before = count_of(&self.raw, self.stage);
         let old = self.stage;
-        let (taken, left) = piece.split_at((self.room - before).min(piece.len()));
-        keep(&mut self.raw, taken);
-        self.stage = read_on(&self.raw, &mut self.body, self.room, !left.is_empty(), old);
+        self.stage = take_next(&mut self.raw, &mut self.body, self.room, piece, old);
         told(before, old, self.stage)
     }
 

@@ -21,12 +21,12 @@ returns-then-is_empty-clause-steps c came held k =
       subst (λ (q : Place). IsIdle held q) (sym c.requires.at_data) tt,
     )
 
-pub returns-then-size-gt-limit-clause-steps : goal.returns-then-size-gt-limit-clause-steps
-returns-then-size-gt-limit-clause-steps c came held k =
+pub returns-then-size-quota-clause-steps : goal.returns-then-size-quota-clause-steps
+returns-then-size-quota-clause-steps c came held k =
     data_over c.args.quota came held c.args.body.now.items c.args.point k c.args.left c.requires.at_data c.requires.some c.args.piece.now [] []
     (length c.split_at.result.0.now)
     (omega (arith, ap length c.split_at.ensures.front, length-take c.min.result c.args.piece.now, c.min.ensures))
-    c.if-size-gt-limit.true
+    c.if-size-quota.true
 
 pub returns-in-Err-clause-memory : goal.returns-in-Err-clause-memory
 returns-in-Err-clause-memory c room =
@@ -36,7 +36,7 @@ returns-in-Err-clause-memory c room =
     let k = c.requires.live.2 in
     let before : c.len-before.result ≡ length body = omega (arith, c.args.body.now.ok.0, c.len-before.ensures) in
     let kept = c.kept_part.ensures ∙ ap (λ (j : ℕ). more_of q.need j z) before in
-    let within : length (k.content ++ k.more) + length z ≤ q.limit = omega (arith, k.counted, c.if-size-gt-limit.false) in
+    let within : length (k.content ++ k.more) + length z ≤ q.limit = omega (arith, k.counted, c.if-size-quota.false) in
     absurd (false≢true (c.in-Err.ensures.fits
     (omega (arith, kept_room q.need q.limit body (k.content ++ k.more) z k.kept within, ap length kept, room, c.args.body.now.ok.0))))
 
@@ -56,4 +56,4 @@ returns-clause-steps c came held k =
     let next : Point = record { place = place.Data (c.args.left - length z); count = p.count + length z; size = p.size + length z } in
     subst (λ (t : List ℕ). Flows n (came ++ t) held c.grow.new.kept.items next) (sym same)
     (subst (λ (t : List ℕ). Flows n (came ++ z) held t next) (sym kept)
-    (data_on n came held body p k c.args.left c.requires.at_data c.requires.some z fits (omega (arith, c.if-size-gt-limit.false))))
+    (data_on n came held body p k c.args.left c.requires.at_data c.requires.some z fits (omega (arith, c.if-size-quota.false))))

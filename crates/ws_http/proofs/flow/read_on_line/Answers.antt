@@ -1,4 +1,4 @@
-use Rattle.std.proofs.Common.{◌≡◌, ℕ, ◌+◌, ◌-◌, ◌≤◌, List, [], ◌++◌, length, take, drop, refl, sym, ap, ◌∙◌, subst, arith, append_assoc, append-nil, length-append, length-drop, length-take, take-append-drop, false}
+use Rattle.std.proofs.Common.{◌≡◌, ℕ, ◌+◌, ◌-◌, ◌≤◌, List, [], ◌++◌, length, take, drop, refl, sym, ap, ◌∙◌, subst, arith, append_assoc, append-nil, length-append, length-drop, length-take, take-append-drop}
 use Rattle.std.proofs.lemmas.Bool.Decides.{nat_tests}
 use Rattle.std.proofs.lemmas.List.{take-take, drop-append-le}
 use Rattle.ws_http.specs.declared.chunk.Line.TheVariants as line
@@ -7,8 +7,6 @@ use Rattle.ws_http.specs.declared.flow.Point.{Point}
 use Rattle.ws_http.specs.declared.flow.DataEnd.TheVariants as end
 use Rattle.ws_http.specs.Chunks.{LineIs}
 use Rattle.ws_http.specs.Flow.{Flows}
-use Rattle.std.specs.Vec.{vec_capacity}
-use Rattle.ws_http.specs.ResponseStages.{is_full}
 use Rattle.ws_http.specs.FlowEnds.{IsDataEnd, IsIdle}
 use Rattle.ws_http.proofs.FlowLemmas.{shut_open, shut_zero, line_on, line_long, line_found, line_never, nothing, take_self, cleared, some_by}
 use Rattle.ws_http.proofs.flow.read_on_line.Goals as goal

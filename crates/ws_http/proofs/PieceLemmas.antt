@@ -2,22 +2,22 @@
 use Rattle.std.proofs.Common.{◌≡◌, ℕ, ◌≤◌, Bool, true, false, cond, List, [], ◌∷◌, ◌++◌, length, refl, sym, ap, ◌∙◌, subst}
 use Rattle.std.proofs.lemmas.Bool.{false≢true}
 use Rattle.ws_http.specs.Requests.{is_final, said, said_again, IsRequest}
-use Rattle.ws_http.specs.RequestStages.{Reading, Feeds, verdict, fresh}
+use Rattle.ws_http.specs.RequestStages.{Reading, Feeds, Stands, verdict, fresh}
 use Rattle.ws_http.specs.Pieces.{Step, Fed_with, AnswersAre}
+use Rattle.ws_http.proofs.ReaderLemmas.{fresh_stands}
 use Rattle.ws_http.proofs.StayLemmas.{final_stays}
 
 -- a reader that was fed these bytes
 pub record Fits (limit : ℕ) (came : List ℕ) (r : Reading) : Type 0 where
   pub room : r.room ≡ limit
-  pub kept : is_final (verdict r) ≡ false → r.bytes ≡ came
+  pub open : is_final (verdict r) ≡ false → Stands r came
   pub closed : is_final (verdict r) ≡ true → IsRequest limit came (verdict r)
 
 module _ (room : ℕ) (least : 16384 ≤ room) where
   going : (bytes : List ℕ) (r : Reading) (s : Step) → Fits room bytes r → Feeds r s.piece s.after s.answer → is_final (verdict r) ≡ false
       → IsRequest room (bytes ++ s.piece) (verdict s.after)
   going bytes r s fits f live =
-      subst (λ (k : ℕ). IsRequest k (bytes ++ s.piece) (verdict s.after)) fits.room
-      (subst (λ (t : List ℕ). IsRequest r.room (t ++ s.piece) (verdict s.after)) (fits.kept live) (f.judged live))
+      subst (λ (k : ℕ). IsRequest k (bytes ++ s.piece) (verdict s.after)) (f.room ∙ fits.room) (f.stands live bytes (fits.open live)).0.judged
 
   closed : (bytes : List ℕ) (r : Reading) (s : Step) → Fits room bytes r → Feeds r s.piece s.after s.answer → is_final (verdict r) ≡ true
       → IsRequest room (bytes ++ s.piece) (verdict s.after)
@@ -33,14 +33,13 @@ module _ (room : ℕ) (least : 16384 ≤ room) where
   answered : (bytes : List ℕ) (r : Reading) (s : Step) (b : Bool) → is_final (verdict r) ≡ b → Fits room bytes r
       → Feeds r s.piece s.after s.answer → s.answer ≡ cond b (said_again (verdict r)) (said (length bytes) (verdict r) (verdict s.after))
   answered bytes r s true e fits f = (f.again e).1
-  answered bytes r s false e fits f =
-      f.answered e ∙ ap (λ (t : List ℕ). said (length t) (verdict r) (verdict s.after)) (fits.kept e)
+  answered bytes r s false e fits f = (f.stands e bytes (fits.open e)).1
 
-  kept_on : (bytes : List ℕ) (r : Reading) (s : Step) (b : Bool) → is_final (verdict r) ≡ b → Fits room bytes r
-      → Feeds r s.piece s.after s.answer → is_final (verdict s.after) ≡ false → s.after.bytes ≡ bytes ++ s.piece
-  kept_on bytes r s true e fits f live =
+  open_on : (bytes : List ℕ) (r : Reading) (s : Step) (b : Bool) → is_final (verdict r) ≡ b → Fits room bytes r
+      → Feeds r s.piece s.after s.answer → is_final (verdict s.after) ≡ false → Stands s.after (bytes ++ s.piece)
+  open_on bytes r s true e fits f live =
       absurd (false≢true (sym live ∙ ap (λ (x : Reading). is_final (verdict x)) (f.again e).0 ∙ e))
-  kept_on bytes r s false e fits f live = f.whole_kept live ∙ ap (λ (t : List ℕ). t ++ s.piece) (fits.kept e)
+  open_on bytes r s false e fits f live = (f.stands e bytes (fits.open e)).0
 
   pub in_pieces : (bytes : List ℕ) (r : Reading) (steps : List Step) → Fits room bytes r → Fed_with r steps
       → AnswersAre room bytes (verdict r) steps
@@ -49,10 +48,10 @@ module _ (room : ℕ) (least : 16384 ≤ room) where
       let now = one bytes r s (is_final (verdict r)) refl fits f.0 in
       let next : Fits room (bytes ++ s.piece) s.after = record {
         room = f.0.room ∙ fits.room;
-        kept = kept_on bytes r s (is_final (verdict r)) refl fits f.0;
+        open = open_on bytes r s (is_final (verdict r)) refl fits f.0;
         closed = λ _. now;
       } in
       (now, answered bytes r s (is_final (verdict r)) refl fits f.0, in_pieces (bytes ++ s.piece) s.after steps next f.1)
 
 pub from_fresh : (room : ℕ) → Fits room [] (fresh room)
-from_fresh room = record { room = refl; kept = λ _. refl; closed = λ done. absurd (false≢true done) }
+from_fresh room = record { room = refl; open = λ _. fresh_stands room; closed = λ done. absurd (false≢true done) }

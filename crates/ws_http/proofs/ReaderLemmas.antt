@@ -8,6 +8,7 @@ use Rattle.std.proofs.Math.Seq.{take-append_seam}
 use Rattle.httparse.specs.Grammar.{RequestHead, print_request, ReadsRequest, HasNoRequest, MayBecomeRequest}
 use Rattle.httparse.proofs.OpenLemmas.{request_may_from_line, line_blank}
 use Rattle.ws_http.specs.declared.fed.Fed.{Fed}
+use Rattle.ws_http.specs.declared.flow.Point.{Point}
 use Rattle.ws_http.specs.declared.head.Framing.{Framing}
 use Rattle.ws_http.specs.declared.head.Framing.TheVariants as framing
 use Rattle.ws_http.specs.declared.head.Judged.TheVariants as judged
@@ -185,6 +186,13 @@ stands_plain room raw came over s least took past plain holds ready closes =
       kept = keeps_plain room raw came over s took past closes plain;
       head = shares_plain room raw came s same plain ready;
     }
+
+pub unchunked : (s : Stage) → ((head : ℕ) (p : Point) → s ≡ stage.Chunked head p → ⊥) → is_chunked s ≡ false
+unchunked stage.Head not = refl
+unchunked (stage.Fixed head total) not = refl
+unchunked (stage.Chunked head p) not = absurd (not head p refl)
+unchunked (stage.Whole head total chunked) not = refl
+unchunked (stage.Bad reason sound) not = refl
 
 -- what is kept is all that came, where no chunked body has begun
 pub keeps_all : (room : ℕ) (raw body came : List ℕ) (s : Stage) → is_chunked s ≡ false → is_last s ≡ false → Keeps room raw body s came → raw ≡ came

@@ -1,5 +1,5 @@
 -- What a piece of a chunked body of a request comes to.
-use Rattle.std.proofs.Common.{◌≡◌, ℕ, ◌+◌, ◌-◌, ◌<◌, ◌≤◌, Bool, true, false, cond, List, [], ◌++◌, length, take, drop, refl, sym, ap, ◌∙◌, subst, arith, append_assoc, length-append, length-drop, length-take, take-append-drop}
+use Rattle.std.proofs.Common.{◌≡◌, ℕ, ◌+◌, ◌-◌, ◌<◌, ◌≤◌, Bool, true, false, cond, List, [], ◌++◌, length, take, drop, refl, sym, ap, ◌∙◌, subst, arith, length-append, length-drop, length-take}
 use Rattle.std.specs.Prelude.{nat_lt}
 use Rattle.std.proofs.lemmas.Bool.{false≢true}
 use Rattle.std.proofs.lemmas.Bool.Decides.{nat_tests}
@@ -22,7 +22,7 @@ use Rattle.ws_http.proofs.ReaderLemmas.{head_more, same_head, shares_front, take
 use Rattle.ws_http.proofs.ReplyLemmas.{follows_by}
 use Rattle.ws_http.proofs.FlowLemmas.{flow_begins, flow_held, open_stops, within_limit, cleared}
 
-head_in : (came : List ℕ) (head : ℕ) → HasHead came head framing.Chunked → (head ≤ 16384) × (head ≤ length came)
+pub head_in : (came : List ℕ) (head : ℕ) → HasHead came head framing.Chunked → (head ≤ 16384) × (head ≤ length came)
 head_in came head j = (omega (arith, j.3, length-take 16384 came), omega (arith, j.3, length-take 16384 came))
 
 -- ---- a piece of the body

@@ -1,5 +1,5 @@
 // The reader of a request that comes in any pieces.
-ghost use Rattle.std.specs.Prelude.{◌≡◌, ◌≤◌, IfOk, ℕ, List, take, true};
+ghost use Rattle.std.specs.Prelude.{◌≡◌, ◌≤◌, IfOk, ℕ, List, [], take, true};
 ghost use Rattle.std.specs.Option.{option_copied};
 ghost use Rattle.httparse.specs.Grammar.{RequestHead, ReadsRequest};
 ghost use Rattle.ws_http.specs.Fields.{first_value, fields_of, expects_continue};
@@ -41,11 +41,12 @@ impl Model for RequestReader {
 }
 
 impl RequestReader {
-    ghost use Rattle.ws_http.specs.RequestStages.{Reading, Feeds, fresh, verdict};
+    ghost use Rattle.ws_http.specs.RequestStages.{Reading, Feeds, Stands, fresh, verdict};
 
     /// A reader with a room of 16,384 bytes.
     pub fn made(alloc: Global) -> Result<RequestReader, NoMemory>
-        ensures { IfOk result (λ r. r ≡ fresh 16384) }
+        ensures fresh { IfOk result (λ r. r ≡ fresh 16384) }
+        ensures stands { IfOk result (λ r. Stands r []) }
     {
         RequestReader::made_for(alloc, 16_384)
     }
@@ -54,7 +55,8 @@ impl RequestReader {
     pub fn made_for(alloc: Global, room: u32) -> Result<RequestReader, NoMemory>
         requires least { 16384 ≤ room }
         requires most { room ≤ 4210688 }
-        ensures { IfOk result (λ r. r ≡ fresh room) }
+        ensures fresh { IfOk result (λ r. r ≡ fresh room) }
+        ensures stands { IfOk result (λ r. Stands r []) }
     {
         let room = room as usize;
         let raw = Vec::with_capacity(alloc, room)?;

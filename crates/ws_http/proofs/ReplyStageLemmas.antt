@@ -19,7 +19,7 @@ use Rattle.ws_http.specs.declared.reply_stage.ReplyStage.TheVariants as stage
 use Rattle.ws_http.specs.Chunks.{After, LineNext, chunk_data}
 use Rattle.ws_http.specs.ResponseFields.{kept_of, reply_of}
 use Rattle.ws_http.specs.Responses.{Verdict, unfinished, headed, lasting, whole, bad, Front, partial, wrong, final, IsFront, FrontSays, FinalSays, BodySays, ChunksEnd, fixed_verdict, is_over, raw_limit, Behind, IsResponse}
-use Rattle.ws_http.specs.ResponseStages.{room_of, is_status, is_chunked, front, extent_by, HasInterims, HasFinal, HasBegun, Reaches, Judged, Ready, is_last}
+use Rattle.ws_http.specs.ResponseStages.{room_of, is_status, is_chunked, front, quota_of, extent_by, HasInterims, HasFinal, HasBegun, Reaches, Judged, Ready, is_last}
 use Rattle.ws_http.specs.FlowEnds.{StopsAt}
 use Rattle.ws_http.specs.ResponseHeadsEnd.{IsHeadsEnd}
 use Rattle.ws_http.specs.declared.reply_head.HeadsEnd.TheVariants as heads

@@ -4,7 +4,7 @@ use Rattle.ws_front.proofs.read.read_on.Goals as goal
 
 pub pieces-init : goal.pieces-init
 pieces-init g c = record {
-  so_far = started c.args.reader.now (g.S.Source.left c.args.source.now) c.headed-came.result c.requires c.headed-came.ensures;
+  so_far = λ first o. started first c.args.reader.now (g.S.Source.left c.args.source.now) c.headed-came.result o c.headed-came.ensures;
   later = omega arith;
 }
 
@@ -12,15 +12,20 @@ pub pieces-preserved : goal.pieces-preserved
 pieces-preserved g c =
     let p = rw c.in-Some.is at c.in_ok-fed.ensures.piece in
     record {
-      so_far = goes_on_with _ _ _ _ _ c.pieces.invariant.so_far _ _ _ p c.in-More.is;
+      so_far = λ first o. goes_on_with _ _ _ _ _ _ (c.pieces.invariant.so_far first o) _ _ _ p c.in-More.is;
       later = omega (arith, c.pieces.invariant.later, c.take_piece.ensures.cause.later);
     }
 
+pub pieces-decreases : goal.pieces-decreases
+pieces-decreases g c =
+    let p = rw c.in-Some.is at c.in_ok-fed.ensures.piece in
+    shrinks _ _ _ _ _ _ (c.pieces.invariant.so_far c.requires.0 c.requires.1) _ _ _ p c.in-More.is
+
 pub returns-in_default-clause-reads : goal.returns-in_default-clause-reads
-returns-in_default-clause-reads g c =
-    let p = rw c.in-Some.is at c.in_ok-fed.ensures.piece in finds _ _ _ _ _ c.pieces.invariant.so_far _ _ _ p c.in_default.not-More
+returns-in_default-clause-reads g c first o =
+    let p = rw c.in-Some.is at c.in_ok-fed.ensures.piece in finds _ _ _ _ _ _ (c.pieces.invariant.so_far first o) _ _ _ p c.in_default.not-More
 
 pub returns-in-None-clause-reads : goal.returns-in-None-clause-reads
-returns-in-None-clause-reads g c =
+returns-in-None-clause-reads g c first o =
     let p = rw c.in-None.is at c.in_ok-fed.ensures.piece in
-    cuts _ _ _ _ _ c.pieces.invariant.so_far _ p.1 c.if-came.true p.2
+    cuts _ _ _ _ _ _ (c.pieces.invariant.so_far first o) _ p.1 c.if-came.true p.2

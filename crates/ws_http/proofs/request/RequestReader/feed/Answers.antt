@@ -1,4 +1,4 @@
-use Rattle.std.proofs.Common.{◌≡◌, ℕ, false, sym, ap, ◌∙◌, subst, arith, List}
+use Rattle.std.proofs.Common.{◌≡◌, ℕ, false, ap, ◌∙◌, subst, arith, List}
 use Rattle.ws_http.specs.Requests.{said}
 use Rattle.ws_http.specs.RequestStages.{Reading, Feeds, count_of, is_last, verdict_of}
 use Rattle.ws_http.proofs.ReaderLemmas.{feeds, count_small}

@@ -1,13 +1,15 @@
 -- The steps and the exits of reading piece by piece.
-use Rattle.std.proofs.Common.{◌≡◌, ◌≢◌, ℕ, ◌+◌, ◌-◌, ◌≤◌, ◌<◌, Bool, true, false, List, [], ◌∷◌, ◌++◌, length, take, refl, sym, ap, ◌∙◌, subst, append_assoc, append-nil, length-append, arith, Option, Some, None}
+use Rattle.std.proofs.Common.{◌≡◌, ◌≢◌, ℕ, ◌-◌, ◌≤◌, ◌<◌, Bool, true, false, List, [], ◌++◌, length, refl, sym, ap, ◌∙◌, subst, append_assoc, append-nil, length-append, arith, Option, Some, None, Result, Ok, Err, IsErrAnd}
 use Rattle.std.specs.Prelude.{if◌then◌else◌}
 use Rattle.std.specs.Io.KnownBytes.{Consumes, IsAtEnd}
 use Rattle.ws_http.specs.declared.fed.Fed.{Fed}
 use Rattle.ws_http.specs.declared.fed.Fed.TheVariants.{More, Head}
 use Rattle.ws_http.specs.Requests.{Verdict, unfinished, headed, whole, bad, is_final, is_headed, said, IsRequest}
-use Rattle.ws_http.specs.RequestStages.{Reading, Feeds, Stands, fed_count, verdict}
+use Rattle.ws_http.specs.RequestStages.{Reading, Stands, fed_count, verdict}
 use Rattle.ws_front.specs.Moves.{IsAll}
-use Rattle.ws_front.specs.Reading.{FeedsPiece, IsOpen, ReadsTo, ReadsOver}
+use Rattle.ws_front.specs.declared.read.Stop.{Stop}
+use Rattle.ws_front.specs.declared.read.Stop.TheVariants as stop
+use Rattle.ws_front.specs.Reading.{FeedsPiece, IsOpen, ReadsTo, ReadsOver, ReadsOn}
 use Rattle.ws_front.proofs.Known.{Consumes-then, Consumes-none, Consumes-all}
 use Rattle.ws_http.proofs.ReaderLemmas.{came_count}
 use Rattle.ws_front.proofs.Verdicts.{goes_on, is_short}
@@ -162,3 +164,9 @@ module _ (first : List ℕ) (old now : Reading) (left left' : Option (List ℕ))
           at_end left left' s.before none.0 s.consumed end,
           none.1,
         )
+
+-- a read failed
+pub reads_err : (first : List ℕ) (old new : Reading) (left left' : Option (List ℕ)) (r : Result Fed Stop) → IsErrAnd r (λ (x : Stop). x ≡ stop.ReadFault)
+    → ReadsOver first old left left' 0 → ReadsOn first old new left left' r
+reads_err first old new left left' (Ok fed) h q = absurd h
+reads_err first old new left left' (Err x) h q = subst (λ (s : Stop). ReadsOn first old new left left' (Err s)) (sym h) q

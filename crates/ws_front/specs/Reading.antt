@@ -1,5 +1,5 @@
 -- What reading a request piece by piece comes to (own).
-use Rattle.std.specs.Prelude.{◌≡◌, ◌≢◌, ℕ, ◌<◌, ◌≤◌, false, if◌then◌else◌, List, [], ◌++◌, length, take, Option, Some, None, Result, Ok, Err, IsErrOf}
+use Rattle.std.specs.Prelude.{◌≡◌, ◌≢◌, ℕ, ◌<◌, ◌≤◌, false, if◌then◌else◌, List, [], ◌++◌, length, Option, Some, None, Result, Ok, Err, IsErrOf}
 use Rattle.std.specs.Io.KnownBytes.{Consumes, IsAtEnd}
 use Rattle.ws_model.specs.Cause.{Rose}
 use Rattle.ws_http.specs.declared.fed.Fed.{Fed}

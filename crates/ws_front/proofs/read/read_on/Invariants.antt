@@ -1,4 +1,6 @@
-use Rattle.std.proofs.Common.{◌-◌, ◌≤◌, length}
+use Rattle.std.proofs.Common.{◌-◌, ◌≤◌, ℕ, List}
+use Rattle.ws_http.specs.RequestStages.{fed_count}
+use Rattle.ws_front.specs.Reading.{IsOpen}
 use Rattle.ws_front.proofs.Reading.{SoFar}
 use Rattle.ws_front.proofs.read.read_on.Given as goal
 

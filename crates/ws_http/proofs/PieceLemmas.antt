@@ -1,10 +1,13 @@
 -- One piece after another.
-use Rattle.std.proofs.Common.{◌≡◌, ℕ, ◌≤◌, Bool, true, false, cond, List, [], ◌∷◌, ◌++◌, length, refl, sym, ap, ◌∙◌, subst}
+use Rattle.std.proofs.Common.{◌≡◌, ℕ, ◌≤◌, Bool, true, false, cond, List, [], ◌∷◌, ◌++◌, length, refl, sym, ap, ◌∙◌, subst, append_assoc}
 use Rattle.std.proofs.lemmas.Bool.{false≢true}
+use Rattle.httparse.specs.Grammar.{print_request}
+use Rattle.ws_http.specs.declared.stage.Stage.{Stage}
+use Rattle.ws_http.specs.declared.stage.Stage.TheVariants as stage
 use Rattle.ws_http.specs.Requests.{is_final, said, said_again, IsRequest}
-use Rattle.ws_http.specs.RequestStages.{Reading, Feeds, Stands, verdict, fresh}
+use Rattle.ws_http.specs.RequestStages.{Reading, Feeds, Keeps, SharesHead, Stands, is_last, verdict, fresh}
 use Rattle.ws_http.specs.Pieces.{Step, Fed_with, AnswersAre}
-use Rattle.ws_http.proofs.ReaderLemmas.{fresh_stands}
+use Rattle.ws_http.proofs.ReaderLemmas.{front_more, final_last, fresh_stands}
 use Rattle.ws_http.proofs.StayLemmas.{final_stays}
 
 -- a reader that was fed these bytes
@@ -55,3 +58,31 @@ module _ (room : ℕ) (least : 16384 ≤ room) where
 
 pub from_fresh : (room : ℕ) → Fits room [] (fresh room)
 from_fresh room = record { room = refl; standing = λ _. fresh_stands room; closed = λ done. absurd (false≢true done) }
+
+-- ---- behind a last stage
+
+kept_last : (room : ℕ) (raw body more : List ℕ) (s : Stage) → is_last s ≡ true → Keeps room raw body s more
+kept_last room raw body more stage.Head last = absurd (cc)
+kept_last room raw body more (stage.Fixed head total) last = absurd (cc)
+kept_last room raw body more (stage.Chunked head p) last = absurd (cc)
+kept_last room raw body more (stage.Whole head total chunked) last = tt
+kept_last room raw body more (stage.Bad reason sound) last = tt
+
+shares_more : (raw came more : List ℕ) → SharesHead raw came → SharesHead raw (came ++ more)
+shares_more raw came more x =
+    let y = front_more 16384 came more in
+    record {
+      head = x.head;
+      kept_rest = x.kept_rest;
+      rest = x.rest ++ y.0;
+      kept = x.kept;
+      reads = (x.reads.0, y.1 ∙ ap (λ (t : List ℕ). t ++ y.0) x.reads.1 ∙ append_assoc (print_request x.head) x.rest y.0);
+    }
+
+-- a reader at its last stage stands for all bytes that come behind
+pub stands_more : (r : Reading) (came more : List ℕ) → 16384 ≤ r.room → is_last r.stage ≡ true → Stands r came → Stands r (came ++ more)
+stands_more r came more least last st = record {
+  judged = final_stays r.room came more (verdict r) least (final_last r.stage r.bytes r.content ∙ last) st.judged;
+  kept = kept_last r.room r.bytes r.content (came ++ more) r.stage last;
+  head = λ sound. shares_more r.bytes came more (st.head sound);
+}

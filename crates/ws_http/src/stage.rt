@@ -91,6 +91,17 @@ pub fn read_head(raw: &[u8], room: usize, over: bool) -> Stage
     }
 }
 
+/// Whether the stage is the last one.
+pub fn is_last(stage: Stage) -> bool
+    ensures { result ≡ is_last stage }
+{
+    match stage {
+        Stage::Whole(..) => true,
+        Stage::Bad(..) => true,
+        _ => false,
+    }
+}
+
 /// How many bytes came up to a stage that isn't the last one.
 pub fn count_of(raw: &[u8], stage: Stage) -> usize
     requires { count_of raw.now stage < 2 ^ 32 }

@@ -2,7 +2,7 @@ use Rattle.std.proofs.Common.{ℕ, List, ◌++◌, subst}
 use Rattle.ws_http.specs.declared.stage.Stage.{Stage}
 use Rattle.ws_http.specs.RequestStages.{Keeps, Stands}
 use Rattle.ws_http.proofs.ReaderLemmas.{keeps_all, unchunked}
-use Rattle.ws_http.proofs.request_next.take_next.Goals as goal
+use Rattle.ws_http.proofs.request_next.take_part.Goals as goal
 
 pub returns-in-Chunked-clause-stands : goal.returns-in-Chunked-clause-stands
 returns-in-Chunked-clause-stands c came st = c.take_chunks.ensures.stands came (subst (λ (s : Stage). Keeps c.args.room c.args.raw.now.items c.args.body.now.items s came) c.in-Chunked.is st.kept)

@@ -173,13 +173,7 @@ fn read_on_line(raw: &mut Vec<u8>, start: usize, piece: &[u8], point: Point) -> 
 }
 
 // The data of a chunk of which so many bytes are missing.
-fn read_on_data(
-    body: &mut Vec<u8>,
-    quota: Quota,
-    piece: &[u8],
-    point: Point,
-    left: usize,
-) -> Step
+fn read_on_data(body: &mut Vec<u8>, quota: Quota, piece: &[u8], point: Point, left: usize) -> Step
     requires at_data { point.place ≡ place.Data left }
     requires some { 0 < left }
     requires live { (came : List ℕ) × (held : List ℕ) × Flows quota came held body.old.items point }

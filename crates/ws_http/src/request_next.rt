@@ -45,13 +45,7 @@ fn take_piece(
 }
 
 // Takes a part of a piece, and reads on.
-fn take_part(
-    raw: &mut Vec<u8>,
-    body: &mut Vec<u8>,
-    room: usize,
-    piece: &[u8],
-    from: Stage,
-) -> Stage
+fn take_part(raw: &mut Vec<u8>, body: &mut Vec<u8>, room: usize, piece: &[u8], from: Stage) -> Stage
     requires least { MAX_HEAD ≤ room }
     requires most { room ≤ 4210688 }
     requires short { length raw.old.items ≤ room }
@@ -75,12 +69,7 @@ fn take_part(
 
 // Takes the next piece where no head is whole. What stands up to the first empty line comes first, so that of a body
 // behind a head that ends there nothing is kept with the head.
-fn take_head(
-    raw: &mut Vec<u8>,
-    body: &mut Vec<u8>,
-    room: usize,
-    piece: &[u8],
-) -> Stage
+fn take_head(raw: &mut Vec<u8>, body: &mut Vec<u8>, room: usize, piece: &[u8]) -> Stage
     requires least { MAX_HEAD ≤ room }
     requires most { room ≤ 4210688 }
     requires short { length raw.old.items ≤ room }

@@ -144,7 +144,11 @@ fn chunked_bodies_in_any_pieces(rt: HostRuntime) -> Result<(), Fail> {
         for size in [1, 7, 64, 100_000] {
             match body_fed(&rt, 16_384, bytes, size)? {
                 Ok(data) => assert_eq!(rt; data.as_slice(), *body, "{bytes:?} in pieces of {size}"),
-                Err(said) => assert_eq!(rt; said, Fed::Whole { used: 0 }, "{bytes:?} in pieces of {size}"),
+                Err(said) => assert_eq!(rt;
+                    said,
+                    Fed::Whole { used: 0 },
+                    "{bytes:?} in pieces of {size}"
+                ),
             }
         }
     }

@@ -17,10 +17,10 @@ returns-then-is_empty-clause-stands c came st =
     let here : Stands r (came ++ front) = c.take_part-stage.ensures.stands came st in
     let all = append_assoc came front behind ∙ ap (λ (t : List ℕ). came ++ t) sum in
     elim c.then-is_empty.branch [
-      then-is_empty-via-then-is_empty w ↦
+      | then-is_empty-via-then-is_empty w ↦
           let none : behind ≡ [] = nothing behind (let e = c.is_empty.ensures in let t = w.if-is_empty.true in grind (arith, nat_tests, e, t)) in
           subst (λ (t : List ℕ). Stands r t) (sym (append-nil (came ++ front)) ∙ ap (λ (t : List ℕ). (came ++ front) ++ t) (sym none) ∙ all) here
-    | then-is_empty-via-else-is_empty+then-is_last w ↦
+      | then-is_empty-via-else-is_empty+then-is_last w ↦
           subst (λ (t : List ℕ). Stands r t) all (stands_more r (came ++ front) behind c.requires.least (sym w.is_last.ensures ∙ w.if-is_last.true) here)
     ]
 

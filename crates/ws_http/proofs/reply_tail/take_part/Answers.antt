@@ -4,7 +4,7 @@ use Rattle.ws_http.specs.ResponseStages.{Ready, Small, Stands, is_full, is_starv
 use Rattle.ws_http.proofs.ReplyReaderLemmas.{kept_plain, stands_by}
 use Rattle.ws_http.proofs.ReplyStageLemmas.{unchunked}
 use Rattle.ws_http.proofs.ReplyTailLemmas.{alone, together, either, apart_unchunked}
-use Rattle.ws_http.proofs.reply_tail.take_next.Goals as goal
+use Rattle.ws_http.proofs.reply_tail.take_part.Goals as goal
 
 pub returns-then-is_apart-clause-stands : goal.returns-then-is_apart-clause-stands
 returns-then-is_apart-clause-stands c well came st =

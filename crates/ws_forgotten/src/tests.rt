@@ -73,7 +73,8 @@ fn a_few_pairs(rt: HostRuntime) -> Result<(), Fail> {
         t: 1000,
         what: What::Unheard { n: 4 },
     };
-    let log = [first, second];
+    let events = [first, second];
+    let log = &events[..];
     for (from, wanted) in [(0, BOTH), (1, NEW), (2, NEW)] {
         let told = tally(&tables, &fates, &kept, &log[from..], 2000);
         assert!(rt; told.serial == 0 && told.t == 0 && told.what == What::Tally(wanted));

@@ -1,4 +1,4 @@
-// Which events are kept, by their kind, where no version and no lease is.
+// Which events are kept, by their kind.
 use crate::gone_on::after;
 use check_histories::{CB, CC, X, Y, asked, bytes, fetched, happen, pinged, same, unfetched};
 use std::alloc::Global;
@@ -45,14 +45,16 @@ fn fetches(alloc: Global, events: &mut Vec<Event>) -> Result<(), NoMemory> {
     happen(events, 1_190, same(alloc, X, 19)?)
 }
 
-// A push, and a lease that is revoked, whose notice is owed.
+// A push that ends the first version's pair, a second version, and a lease that is revoked, whose notice is
+// owed.
 fn endings(alloc: Global, events: &mut Vec<Event>) -> Result<(), NoMemory> {
     let how = How::Done;
     happen(events, 1_200, What::Pushed { ver: 1, lease: 1, how })?;
-    happen(events, 1_210, asked(alloc, 6, X, CD, 1_000)?)?;
-    happen(events, 1_220, What::Confirmed { n: 6, sent: 1_215 })?;
+    happen(events, 1_210, fetched(alloc, 2, X, 20)?)?;
+    happen(events, 1_220, asked(alloc, 6, X, CD, 1_000)?)?;
+    happen(events, 1_230, What::Confirmed { n: 6, sent: 1_225 })?;
     let reason = bytes(alloc, "gone")?;
-    happen(events, 1_230, What::Revoked { n: 6, reason })
+    happen(events, 1_240, What::Revoked { n: 6, reason })
 }
 
 fn history(alloc: Global) -> Result<Vec<Event>, NoMemory> {
@@ -82,17 +84,29 @@ fn serials(alloc: Global, events: &[Event]) -> Result<Vec<u64>, NoMemory> {
     Ok(serials)
 }
 
+// Whether each event is one of the history's, with its texts and bodies.
+fn are_whole(history: &[Event], events: &[Event]) -> bool {
+    events.iter().all(|event| history.contains(event))
+}
+
 // Of the pending intent 3, of the owed notices of 4 and of the revoked 6, and of the owed fetch of Y.
-const KEPT: [u64; 8] = [5, 6, 7, 8, 9, 17, 18, 22];
+const UNLEASED: [u64; 8] = [5, 6, 7, 8, 9, 17, 18, 23];
+
+// With them those of version 2, of lease 1, which is live, and of lease 6.
+const KEPT: [u64; 13] = [1, 2, 5, 6, 7, 8, 9, 17, 18, 22, 23, 24, 25];
 
 #[test]
 fn kept_by_kind(rt: HostRuntime) -> Result<(), Fail> {
     let alloc = rt.alloc();
-    let events = history(alloc)?;
-    let tables = after(alloc, &events)?.ok_or("an event is refused")?;
-    let log = log_of(alloc, &events)?;
-    let kept = kept_events(alloc, &tables, &Kept::nothing(alloc), &log)?;
-    let serials = serials(alloc, &kept)?;
-    assert!(rt; serials.as_slice() == KEPT.as_slice());
+    let history = history(alloc)?;
+    let ledger = after(alloc, &history)?.ok_or("an event is refused")?;
+    let tables = ledger.tables();
+    let log = log_of(alloc, &history)?;
+    let unleased = kept_events(alloc, tables, &Kept::nothing(alloc), &log)?;
+    assert!(rt; serials(alloc, &unleased)?.as_slice() == UNLEASED.as_slice());
+    let found = Kept::of(alloc, tables, ledger.fates(), &log, &[], 1_300)?;
+    let kept = kept_events(alloc, tables, &found, &log)?;
+    assert!(rt; serials(alloc, &kept)?.as_slice() == KEPT.as_slice());
+    assert!(rt; are_whole(&history, &kept));
     Ok(())
 }

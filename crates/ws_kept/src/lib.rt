@@ -1,8 +1,12 @@
 //! Which versions and which leases a compaction keeps.
 #![tactic(auto)]
 
+mod finding;
 mod kept;
+mod leases;
+mod numbers;
 #[cfg(test)]
 mod tests;
+mod versions;
 
 pub use kept::Kept;

@@ -1,12 +1,87 @@
-// What is kept of nothing.
+// What is kept of a few leases, worked out by hand, and of nothing.
 use crate::Kept;
+use crate::leases::with_replaced;
+use std::alloc::Global;
+use std::collections::BTreeSet;
 use std::test::Fail;
+use ws_core_tables::Tables;
+use ws_fate::{Fates, Standing};
+use ws_model::{Cause, NoMemory};
+
+/// Lease 2 replaced lease 1, lease 5 then lease 4, and lease 3 then lease 2.
+const RENEWALS: [(u64, u64); 3] = [(2, 1), (5, 4), (3, 2)];
+
+/// The first leases, the kept versions, and the leases that are kept by them, all rising.
+struct Case {
+    first: &'static [u64],
+    versions: &'static [u64],
+    kept: &'static [u64],
+}
+
+const CASES: [Case; 7] = [
+    // Version 7 went over from lease 1 to lease 2, and from there to lease 3.
+    Case { first: &[3], versions: &[7], kept: &[1, 2, 3] },
+    Case { first: &[2], versions: &[7], kept: &[1, 2] },
+    Case { first: &[1], versions: &[7], kept: &[1] },
+    // It isn't kept.
+    Case { first: &[3], versions: &[8], kept: &[3] },
+    // Version 8 went over from lease 4 to lease 5, and version 9 had ended before.
+    Case { first: &[5], versions: &[8], kept: &[4, 5] },
+    Case { first: &[5], versions: &[9], kept: &[5] },
+    Case { first: &[3, 5], versions: &[7, 8], kept: &[1, 2, 3, 4, 5] },
+];
+
+fn pairs(alloc: Global) -> Result<Fates, NoMemory> {
+    let mut fates = Fates::empty(alloc);
+    fates.born(7, 1)?;
+    fates.end(7, 1, Standing::Ended(Cause::Replaced));
+    fates.born(7, 2)?;
+    fates.end(7, 2, Standing::Ended(Cause::Replaced));
+    fates.born(8, 4)?;
+    fates.end(8, 4, Standing::Ended(Cause::Replaced));
+    fates.born(9, 4)?;
+    fates.end(9, 4, Standing::Ended(Cause::Spent));
+    fates.born(7, 3)?;
+    Ok(fates)
+}
+
+fn set(alloc: Global, numbers: &[u64]) -> Result<BTreeSet<u64>, NoMemory> {
+    let mut set = BTreeSet::new(alloc);
+    for number in numbers {
+        set.insert(*number)?;
+    }
+    Ok(set)
+}
+
+fn holds(alloc: Global, fates: &Fates, case: &Case) -> Result<bool, NoMemory> {
+    let versions = set(alloc, case.versions)?;
+    let first = set(alloc, case.first)?;
+    let leases = with_replaced(fates, &RENEWALS, &versions, first)?;
+    Ok(leases == set(alloc, case.kept)?)
+}
+
+#[test]
+fn replaced_leases(rt: HostRuntime) -> Result<(), Fail> {
+    let alloc = rt.alloc();
+    let fates = pairs(alloc)?;
+    for case in &CASES {
+        assert_eq!(rt; (case.first, case.versions, holds(alloc, &fates, case)?), (case.first, case.versions, true));
+    }
+    Ok(())
+}
 
 #[test]
 fn nothing_is_kept(rt: HostRuntime) -> Result<(), Fail> {
-    let kept = Kept::nothing(rt.alloc());
-    assert!(rt; !kept.has_version(0));
-    assert!(rt; !kept.has_lease(0));
-    assert!(rt; !kept.has_pair(0, 0));
+    let alloc = rt.alloc();
+    let tables = Tables::empty(alloc);
+    for kept in [
+        Kept::nothing(alloc),
+        Kept::of(alloc, &tables, &pairs(alloc)?, &[], &RENEWALS, 1000)?,
+    ] {
+        assert_eq!(rt;
+            (kept.has_version(7), kept.has_lease(3), kept.has_pair(7, 3)),
+            (false, false, false)
+        );
+    }
     Ok(())
 }

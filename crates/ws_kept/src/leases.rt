@@ -1,0 +1,142 @@
+// The leases that a compaction keeps: the live ones, those whose notices are owed, and those that they
+// replaced, where a pair of a kept version went over.
+ghost use Rattle.std.specs.Prelude.{◌≡◌, ◌≤◌, ◌<◌, ◌^◌, ◌==◌, ◌&&◌, ◌||◌, ℕ, List, IfOk, OnOk};
+ghost use Rattle.std.specs.BTreeSet.{contains};
+ghost use Rattle.std.specs.List.{list_any};
+ghost use Rattle.std.specs.Ordering.{nat_cmp};
+ghost use Rattle.ws_model.specs.declared.event.Event.{Event};
+ghost use Rattle.ws_model.specs.Keep.{member};
+ghost use Rattle.ws_model.specs.Leases.{is_on};
+ghost use Rattle.ws_model.specs.Legal.{Legal};
+ghost use Rattle.ws_core_tables.specs.Stands.{StandsFor, is_number};
+ghost use Rattle.ws_kept.specs.Finding.{gives_lease, goes_on, is_leased, is_noticed, is_replaced, went_over, with_old_ones};
+
+use crate::numbers::add;
+use std::alloc::Global;
+use std::collections::BTreeSet;
+use ws_core_tables::Tables;
+use ws_fate::{Fates, Standing};
+use ws_model::{Cause, Event, Intent, Mode, NoMemory, What};
+
+/// The number of a lease is below it.
+const NUMBER_LIMIT: u64 = 9_223_372_036_854_775_808;
+
+// ---- live leases, and those whose notices are owed
+
+/// Whether an intent has the number of the lease of its topic and callback that is live at `t`.
+fn is_leased(tables: &Tables, intent: &Intent, t: u64) -> bool
+    requires in_time { t < 2 ^ 48 }
+    ensures stands { (h : List Event) (since : ℕ) → StandsFor h since tables.now → Legal h → since ≤ t → result ≡ is_leased h t intent.now }
+{
+    tables.live_lease(intent.topic.as_slice(), intent.callback.as_slice(), t) == Some(intent.n)
+}
+
+/// Whether a mode asks for a subscription.
+fn is_on(mode: Mode) -> bool
+    ensures { result ≡ is_on mode }
+{
+    matches!(mode, Mode::On)
+}
+
+/// Whether a notice is owed of the subscription of this number.
+fn is_noticed(tables: &Tables, lease: u64) -> bool
+    ensures stands { (h : List Event) (since : ℕ) → StandsFor h since tables.now → result ≡ is_noticed h lease }
+{
+    match tables.denied_intent(lease) {
+        Some(intent) => is_on(intent.mode),
+        None => false,
+    }
+}
+
+/// The lease that an event asked for, where it is live at `t`, or that it confirmed, where a notice of it is owed.
+fn given_by(tables: &Tables, event: &Event, t: u64) -> Option<u64>
+    requires in_time { t < 2 ^ 48 }
+    ensures stands { (h : List Event) (since : ℕ) → StandsFor h since tables.now → Legal h → since ≤ t →
+        (n : ℕ) → is_number result n ≡ gives_lease h t n event.now.what }
+{
+    match &event.what {
+        What::Asked(intent) if is_leased(tables, intent, t) => Some(intent.n),
+        What::Confirmed { n, .. } if is_noticed(tables, *n) => Some(*n),
+        _ => None,
+    }
+}
+
+/// The leases that are live at `t`, and those whose notices are owed, by the events that asked for and confirmed them.
+pub(crate) fn first_kept(
+    alloc: Global,
+    tables: &Tables,
+    events: &[Event],
+    t: u64,
+) -> Result<BTreeSet<u64>, NoMemory>
+    requires in_time { t < 2 ^ 48 }
+    ensures stands { (h : List Event) (since : ℕ) → StandsFor h since tables.now → Legal h → since ≤ t →
+        IfOk result (λ s. (n : ℕ) → contains nat_cmp s n ≡ list_any (λ e. gives_lease h t n e.what) events.now) }
+{
+    let mut leases = BTreeSet::new(alloc);
+    for event in events {
+        add(&mut leases, given_by(tables, event, t))?;
+    }
+    Ok(leases)
+}
+
+// ---- leases that were replaced
+
+/// Whether a pair ended because its lease was replaced.
+fn is_replaced(standing: Standing) -> bool
+    ensures { result ≡ is_replaced standing }
+{
+    matches!(standing, Standing::Ended(Cause::Replaced))
+}
+
+/// Whether a pair of this lease and a kept version ended because the lease was replaced.
+fn went_over(fates: &Fates, versions: &BTreeSet<u64>, lease: u64) -> bool
+    requires in_range { lease < 2 ^ 63 }
+    ensures { result ≡ went_over (contains nat_cmp versions.now) lease fates.now.pairs }
+{
+    for (pair, standing) in fates.pairs_of(lease) {
+        if is_replaced(*standing) && versions.contains(&pair.1) {
+            return true;
+        }
+    }
+    false
+}
+
+/// Whether a lease has a number that leases may have, and a pair of it and a kept version went over.
+fn goes_on(fates: &Fates, versions: &BTreeSet<u64>, lease: u64) -> bool
+    ensures { result ≡ goes_on (contains nat_cmp versions.now) fates.now.pairs lease }
+{
+    lease < NUMBER_LIMIT && went_over(fates, versions, lease)
+}
+
+/// Adds the lease that a kept one replaced, where a pair of a kept version went over.
+fn add_replaced(
+    leases: &mut BTreeSet<u64>,
+    fates: &Fates,
+    versions: &BTreeSet<u64>,
+    renewal: (u64, u64),
+) -> Result<(), NoMemory>
+    ensures { OnOk result ((n : ℕ) → contains nat_cmp leases.new n ≡
+        (contains nat_cmp leases.old n || ((contains nat_cmp leases.old renewal.0 && goes_on (contains nat_cmp versions.now) fates.now.pairs renewal.1) && (renewal.1 == n)))) }
+{
+    if leases.contains(&renewal.0) && goes_on(fates, versions, renewal.1) {
+        leases.insert(renewal.1)?;
+    }
+    Ok(())
+}
+
+/// These leases, and with each lease the one that it replaced, where a pair of a kept version went over. A
+/// replaced lease is older than its successor, so one pass from the newest renewal to the oldest finds all.
+pub(crate) fn with_replaced(
+    fates: &Fates,
+    renewals: &[(u64, u64)],
+    versions: &BTreeSet<u64>,
+    first: BTreeSet<u64>,
+) -> Result<BTreeSet<u64>, NoMemory>
+    ensures { IfOk result (λ s. (n : ℕ) → contains nat_cmp s n ≡ member n (with_old_ones (goes_on (contains nat_cmp versions.now) fates.now.pairs) first.keys renewals.now)) }
+{
+    let mut leases = first;
+    for at in (0..renewals.len()).rev() {
+        add_replaced(&mut leases, fates, versions, renewals[at])?;
+    }
+    Ok(leases)
+}

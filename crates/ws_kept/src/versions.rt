@@ -1,0 +1,102 @@
+// The versions that a compaction keeps: those that are owed, and the latest of each topic.
+ghost use Rattle.std.specs.Prelude.{◌≡◌, ◌≤◌, ◌==◌, ◌||◌, ℕ, List, IfOk};
+ghost use Rattle.std.specs.BTreeSet.{contains};
+ghost use Rattle.std.specs.List.{list_any};
+ghost use Rattle.std.specs.Ordering.{nat_cmp};
+ghost use Rattle.ws_model.specs.declared.event.Event.{Event};
+ghost use Rattle.ws_model.specs.Legal.{Legal};
+ghost use Rattle.ws_model.specs.Pairs.{owed};
+ghost use Rattle.ws_model.specs.Versions.{is_version, latest_of};
+ghost use Rattle.ws_fate.specs.Stands.{AreShown};
+ghost use Rattle.ws_core_tables.specs.Stands.{StandsFor, is_number};
+ghost use Rattle.ws_kept.specs.Finding.{gives_latest, is_latest, is_open, owes};
+
+use crate::numbers::add;
+use std::alloc::Global;
+use std::collections::BTreeSet;
+use ws_core_tables::Tables;
+use ws_fate::{Fates, Standing};
+use ws_model::{Event, NoMemory, What};
+
+/// Whether nothing is said of a pair's end.
+fn is_open(standing: Standing) -> bool
+    ensures { result ≡ is_open standing }
+{
+    matches!(standing, Standing::Open)
+}
+
+/// The version of a pair, which has the numbers of its lease and its version, where it is owed at `t`.
+fn owed_by(tables: &Tables, pair: &(u64, u64), standing: Standing, t: u64) -> Option<u64>
+    ensures stands { (h : List Event) (since : ℕ) → StandsFor h since tables.now → since ≤ t →
+        (v : ℕ) → is_number result v ≡ owes h t v (pair.now, standing) }
+{
+    if is_open(standing) && tables.is_owed(pair.1, pair.0, t) {
+        Some(pair.1)
+    } else {
+        None
+    }
+}
+
+/// The versions that are owed at `t` to some lease.
+pub(crate) fn owed_versions(
+    alloc: Global,
+    tables: &Tables,
+    fates: &Fates,
+    t: u64,
+) -> Result<BTreeSet<u64>, NoMemory>
+    ensures stands { (h : List Event) (since : ℕ) → StandsFor h since tables.now → AreShown h since fates.now → Legal h → since ≤ t →
+        IfOk result (λ s. (v : ℕ) → contains nat_cmp s v ≡ list_any (λ p. p.version.ver == v) (owed h t)) }
+{
+    let mut versions = BTreeSet::new(alloc);
+    for (pair, standing) in fates.pairs() {
+        add(&mut versions, owed_by(tables, pair, *standing, t))?;
+    }
+    Ok(versions)
+}
+
+/// Whether the latest version of a topic has this number.
+fn is_latest_of(tables: &Tables, topic: &[u8], ver: u64) -> bool
+    ensures stands { (h : List Event) (since : ℕ) → StandsFor h since tables.now → result ≡ is_version ver (latest_of topic.now h) }
+{
+    match tables.latest_version(topic) {
+        Some(version) => version.ver == ver,
+        None => false,
+    }
+}
+
+/// Whether a version is the latest of its topic.
+fn is_latest(tables: &Tables, ver: u64) -> bool
+    ensures stands { (h : List Event) (since : ℕ) → StandsFor h since tables.now → Legal h → result ≡ is_latest h ver }
+{
+    match tables.version(ver) {
+        Some(version) => is_latest_of(tables, version.topic.as_slice(), ver),
+        None => false,
+    }
+}
+
+/// The version that an event fetched, where it is the latest of its topic.
+fn latest_by(tables: &Tables, event: &Event) -> Option<u64>
+    ensures stands { (h : List Event) (since : ℕ) → StandsFor h since tables.now → Legal h →
+        (v : ℕ) → is_number result v ≡ gives_latest h v event.now.what }
+{
+    match &event.what {
+        What::Fetched(version) if is_latest(tables, version.ver) => Some(version.ver),
+        _ => None,
+    }
+}
+
+/// These versions, and those that the events fetched and that are the latest of their topics.
+pub(crate) fn with_latest(
+    tables: &Tables,
+    events: &[Event],
+    first: BTreeSet<u64>,
+) -> Result<BTreeSet<u64>, NoMemory>
+    ensures stands { (h : List Event) (since : ℕ) → StandsFor h since tables.now → Legal h →
+        IfOk result (λ s. (v : ℕ) → contains nat_cmp s v ≡ (contains nat_cmp first v || list_any (λ e. gives_latest h v e.what) events.now)) }
+{
+    let mut versions = first;
+    for event in events {
+        add(&mut versions, latest_by(tables, event))?;
+    }
+    Ok(versions)
+}

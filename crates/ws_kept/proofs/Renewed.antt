@@ -1,11 +1,9 @@
 -- One pass over the renewals finds the leases that a compaction keeps.
-use Rattle.std.proofs.Common.{◌≡◌, ℕ, ◌≤◌, ◌<◌, Bool, true, false, cond, ◌&&◌, ◌||◌, List, [], ◌∷◌, ◌++◌, refl, ap, sym, ◌∙◌, subst, arith}
+use Rattle.std.proofs.Common.{◌≡◌, ℕ, ◌≤◌, Bool, true, false, cond, ◌&&◌, ◌||◌, List, [], ◌∷◌, ◌++◌, refl, ap, sym, ◌∙◌, subst, arith}
 use Rattle.std.specs.Prelude.{Option, Some, None, is_none, find, filter, map, nat_lt, reverse, ◌==◌}
 use Rattle.std.specs.List.{AllByRecursion, list_any}
-use Rattle.std.specs.List.Sorted.{IsStrictlySortedBy}
-use Rattle.std.specs.Map.{keys_of}
 use Rattle.std.specs.Option.{option_map}
-use Rattle.std.proofs.lemmas.Bool.{and_parts, eqb-true, false≢true, ltb-true}
+use Rattle.std.proofs.lemmas.Bool.{and_parts}
 use Rattle.std.proofs.lemmas.Bool.Decides.{nat_tests}
 use Rattle.std.proofs.lemmas.List.{reverse-append}
 use Rattle.std.proofs.lemmas.List.Folds.{list_any-append}
@@ -17,14 +15,12 @@ use Rattle.ws_model.specs.declared.lease.Lease.{Lease}
 use Rattle.ws_model.specs.Fate.{Pair, fate, is_owed}
 use Rattle.ws_model.specs.Intents.{asked, intents_of, same_pair}
 use Rattle.ws_model.specs.Keep.{member, replaced_by, with_replaced}
-use Rattle.ws_model.specs.Key.{is_key}
 use Rattle.ws_model.specs.Leases.{confirmed_intent, lease_end, lease_of, leases, live}
-use Rattle.ws_model.specs.Legal.{Legal, is_grant, is_key_text, is_sound, is_text, number_limit, secret_limit}
+use Rattle.ws_model.specs.Legal.{Legal, is_sound, number_limit}
 use Rattle.ws_model.specs.Moment.{last_time}
 use Rattle.ws_model.specs.Pairs.{owed, pairs}
 use Rattle.ws_model.specs.Revocation.{is_lease_of, live_lease_of}
 use Rattle.ws_laws.proofs.Ended.{IsToldPair, both_true, pairs_told}
-use Rattle.ws_laws.proofs.Follow.{any_map}
 use Rattle.ws_laws.proofs.Known.{in_time, sound}
 use Rattle.ws_laws.proofs.ListLaws.{all_append, all_filter, all_filter_with, all_find, all_from, all_weaker}
 use Rattle.ws_laws.proofs.Notices.{leases_asked}

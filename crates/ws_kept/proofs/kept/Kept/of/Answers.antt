@@ -1,18 +1,14 @@
-use Rattle.std.proofs.Common.{◌≡◌, ◌≤◌, ℕ, List, ap, arith, sym, true, ◌∙◌, ◌&&◌, ◌||◌}
+use Rattle.std.proofs.Common.{◌≡◌, ◌≤◌, ℕ, ap, arith, sym, true, ◌∙◌, ◌&&◌, ◌||◌}
 use Rattle.std.specs.Prelude.{nat_lt, ◌==◌}
 use Rattle.std.specs.BTreeSet.{contains}
 use Rattle.std.specs.List.{list_any}
 use Rattle.std.specs.Ordering.{nat_cmp}
-use Rattle.ws_model.specs.declared.event.Event.{Event}
 use Rattle.ws_model.specs.Keep.{first_kept, member}
-use Rattle.ws_model.specs.Legal.{Legal, number_limit}
+use Rattle.ws_model.specs.Legal.{number_limit}
 use Rattle.ws_model.specs.Moment.{last_time}
 use Rattle.ws_model.specs.Pairs.{owed}
 use Rattle.ws_model.specs.Verdict.{is_kept_version}
-use Rattle.ws_fate.specs.Stands.{AreShown}
-use Rattle.ws_core_tables.specs.Stands.{StandsFor as TablesStand}
 use Rattle.ws_kept.specs.Finding.{gives_latest, gives_lease, goes_on, is_latest, went_over, with_old_ones}
-use Rattle.ws_kept.specs.Stands.{log_of, renewals}
 use Rattle.ws_kept.proofs.First.{first_logged}
 use Rattle.ws_kept.proofs.Latest.{latest_logged}
 use Rattle.ws_kept.proofs.Lists.{contains_member, or_turned}

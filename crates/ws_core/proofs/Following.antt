@@ -1,13 +1,14 @@
 -- What an accepted event follows, and what is there afterwards.
-use Rattle.std.proofs.Common.{◌≡◌, ℕ, ◌≤◌, true, ◌∷◌, arith}
-use Rattle.std.specs.Prelude.{max}
+use Rattle.std.proofs.Common.{◌≡◌, ℕ, ◌≤◌, Bool, true, List, ◌∷◌, sym, ◌∙◌, arith}
+use Rattle.std.specs.Prelude.{max, Result, IfOk}
+use Rattle.std.proofs.lemmas.Result.{IfOk-weaker}
 use Rattle.ws_model.specs.declared.event.Event.{Event}
-use Rattle.ws_model.specs.Legal.{accepts}
+use Rattle.ws_model.specs.Legal.{Legal, accepts}
 use Rattle.ws_model.specs.Moment.{last_time}
 use Rattle.ws_laws.proofs.Known.{in_time}
 use Rattle.ws_core.specs.Rows.{Rows}
 use Rattle.ws_core.specs.Follows.{HasHistory}
-use Rattle.ws_core.specs.Stands.{CanFollow, GoesOn}
+use Rattle.ws_core.specs.Stands.{CanFollow, GoesOn, StandsFor}
 
 earlier : (s m t : ℕ) → s ≤ m → m ≤ t → s ≤ t
 earlier s m t k l = omega arith
@@ -18,10 +19,7 @@ not_before t m = omega arith
 not_before_either : (s t m : ℕ) → s ≤ m → s ≤ max t m
 not_before_either s t m k = omega arith
 
-pub in_order : (rows : Rows) (e : Event) (history : HasHistory rows) → history.since ≤ max e.t (last_time history.past)
-in_order rows e history = not_before_either history.since e.t (last_time history.past) history.in_time
-
-pub follows_where : (rows : Rows) (e : Event) (history : HasHistory rows) → accepts history.past e ≡ true → CanFollow rows e
+follows_where : (rows : Rows) (e : Event) (history : HasHistory rows) → accepts history.past e ≡ true → CanFollow rows e
 follows_where rows e history k =
     record {
       past = history.past;
@@ -30,6 +28,15 @@ follows_where rows e history k =
       legal = (history.legal, k);
       in_time = earlier history.since (last_time history.past) e.t history.in_time (in_time history.past e k);
     }
+
+-- what is accepted can follow
+pub accepted : {E : Type 0} (rows : Rows) (e : Event) (r : Result Bool E)
+    → ((h : List Event) (since : ℕ) → StandsFor h since rows → Legal h → since ≤ max e.t (last_time h) → IfOk r (λ told. told ≡ accepts h e))
+    → HasHistory rows → IfOk r (λ told. told ≡ true → CanFollow rows e)
+accepted rows e r tells history =
+    IfOk-weaker r (λ told. told ≡ accepts history.past e) (λ told. told ≡ true → CanFollow rows e)
+    (λ told k yes. follows_where rows e history (sym k ∙ yes))
+    (tells history.past history.since history.stands history.legal (not_before_either history.since e.t (last_time history.past) history.in_time))
 
 pub history_after : (e : Event) (old new : Rows) → CanFollow old e → GoesOn e old new → HasHistory new
 history_after e old new follows goes =

@@ -1,15 +1,4 @@
-pub mod Acceptance
-pub mod Bearing
-pub mod Beginning
-pub mod Counted
-pub mod Closing
-pub mod Ending
-pub mod FateOf
 pub mod Following
+pub mod Rooms
+pub mod Log
 pub mod Going
-pub mod InTurn
-pub mod Needed
-pub mod ByKind
-pub mod Lists
-pub mod OwedPairs
-pub mod Together

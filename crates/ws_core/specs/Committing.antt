@@ -1,16 +1,12 @@
 -- What happens together, and ends and makes no pair (own).
-use Rattle.std.specs.Prelude.{◌≡◌, ℕ, ◌≤◌, Bool, List}
-use Rattle.std.specs.List.{list_all}
+use Rattle.std.specs.Prelude.{ℕ, ◌≤◌, List}
 use Rattle.ws_model.specs.declared.event.Event.{Event}
 use Rattle.ws_model.specs.declared.event.What.{What}
 use Rattle.ws_model.specs.Legal.{Legal}
-use Rattle.ws_fate.specs.Stands.{is_quiet}
 use Rattle.ws_core_tables.specs.Committing.{committed}
+pub use Rattle.ws_ledger.specs.Committing.{are_quiet}
 use Rattle.ws_core.specs.Rows.{Rows}
 use Rattle.ws_core.specs.Stands.{StandsFor}
-
-abbrev pub are_quiet : List What → Bool
-are_quiet whats = list_all is_quiet whats
 
 -- what stands for a history goes over to what stands for the history with all that happens at t
 abbrev pub AllGoOn : ℕ → List What → Rows → Rows → Type 0

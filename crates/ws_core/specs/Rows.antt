@@ -1,9 +1,13 @@
--- The core as contracts see it: what the tables show, what became of each pair, and how many pairs stand open (own).
-use Rattle.std.specs.Prelude.{ℕ}
-use Rattle.ws_core_tables.specs.Rows.{Rows as TableRows}
-use Rattle.ws_fate.specs.Rows.{Rows as FateRows}
+-- The core as contracts see it (own).
+use Rattle.std.specs.Prelude.{ℕ, List}
+use Rattle.ws_model.specs.declared.event.Event.{Event}
+use Rattle.ws_tries.specs.Rows.{Rows as TryRows}
+use Rattle.ws_ledger.specs.Rows.{Rows as LedgerRows}
 
+-- the ledger, and what a compaction needs beside it: the log of what happened but pushes, the oldest first, each new lease with the one
+-- that it replaced, the oldest first, and the pushes of each pair that has a room
 pub record Rows : Type 0 where
-  pub tables : TableRows
-  pub fates : FateRows
-  pub open_pairs : ℕ
+  pub ledger : LedgerRows
+  pub log : List Event
+  pub renewals : List (ℕ × ℕ)
+  pub tries : TryRows

@@ -1,33 +1,24 @@
 -- For which history the core stands (own).
-use Rattle.std.specs.Prelude.{◌≡◌, ℕ, ◌-◌, ◌≤◌, List, ◌∷◌, length}
-use Rattle.std.specs.Option.{option_map}
+use Rattle.std.specs.Prelude.{◌≡◌, ℕ, ◌≤◌, List, ◌∷◌, reverse, None}
 use Rattle.ws_model.specs.declared.event.Event.{Event}
-use Rattle.ws_model.specs.declared.fate.Cause.TheVariants.{Expired}
-use Rattle.ws_model.specs.Account.{account}
 use Rattle.ws_model.specs.Legal.{Legal}
-use Rattle.ws_model.specs.Pairs.{owed}
-use Rattle.ws_model.specs.Verdict.{fate_of}
-use Rattle.ws_core_tables.specs.Stands.{StandsFor as TablesStand}
-use Rattle.ws_fate.specs.declared.totals.Standing.{Standing}
-use Rattle.ws_fate.specs.declared.totals.Standing.TheVariants.{Open, Ended}
-use Rattle.ws_fate.specs.Rows.{standing_at}
-use Rattle.ws_fate.specs.Stands.{with_expired}
-use Rattle.ws_fate.specs.Totals.{standing, of_account}
+use Rattle.ws_model.specs.Verdict.{pair_of}
+use Rattle.ws_tries.specs.Rows.{tries_at}
+use Rattle.ws_tries.specs.Stands.{HaveRooms, StandsFor as TriesStand}
+use Rattle.ws_kept.specs.Stands.{log_of, renewals}
+use Rattle.ws_ledger.specs.Stands.{StandsFor as LedgerStands}
 use Rattle.ws_core.specs.Rows.{Rows}
 
--- what is kept of a pair: no event says that it has expired, so it stays open
-abbrev pub kept : Standing → Standing
-kept (Ended Expired) = Open
-kept s = s
-
--- From the moment `since` on the tables stand for the history, and what became of each pair is the history's, where an expired one
--- is kept as an open one. Of the open pairs those that aren't owed have expired: counted so, the numbers of answered and ended pairs
--- are the account's.
+-- From the moment `since` on the ledger stands for the history. The log has its events but the pushes, and each of its renewals stands
+-- beside it. A pair that has a room is one of the history, with exactly its pushes there, and each pair that a compaction would keep has
+-- one.
 pub record StandsFor (h : List Event) (since : ℕ) (rows : Rows) : Type 0 where
-  pub tables : TablesStand h since rows.tables
-  pub shows : (t v n : ℕ) → since ≤ t → standing_at v n rows.fates ≡ option_map kept (option_map standing (fate_of h v n t))
-  pub enough : (t : ℕ) → since ≤ t → length (owed h t) ≤ rows.open_pairs
-  pub totals : (t : ℕ) → since ≤ t → with_expired (rows.open_pairs - length (owed h t)) rows.fates.totals ≡ of_account (account h t)
+  pub ledger : LedgerStands h since rows.ledger
+  pub log : rows.log ≡ log_of h
+  pub renewals : rows.renewals ≡ reverse (renewals h)
+  pub tries : TriesStand h rows.tries
+  pub only : (v n : ℕ) → pair_of h v n ≡ None → tries_at v n rows.tries ≡ None
+  pub rooms : HaveRooms h since rows.tries
 
 -- what stands for a history goes over to what stands for the history with the event
 abbrev pub GoesOn : Event → Rows → Rows → Type 0

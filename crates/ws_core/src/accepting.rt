@@ -7,7 +7,6 @@ ghost use Rattle.ws_core.specs.Follows.{HasHistory};
 ghost use Rattle.ws_core.specs.Stands.{CanFollow, StandsFor};
 
 use crate::Core;
-use crate::sound::is_sound;
 use ws_model::{Event, NoMemory};
 
 impl Core {
@@ -17,6 +16,6 @@ impl Core {
         ensures stands { (h : List Event) (since : ℕ) → StandsFor h since self.now → Legal h → since ≤ max event.now.t (last_time h) → IfOk result (λ told. told ≡ accepts h event.now) }
         ensures follows { HasHistory self.now → IfOk result (λ told. told ≡ true → CanFollow self.now event.now) }
     {
-        Ok(self.tables.allows(event) && is_sound(self.alloc, event)?)
+        self.ledger.accepts(event)
     }
 }

@@ -1,10 +1,15 @@
 // What happened, applied to the core.
-ghost use Rattle.std.specs.Prelude.{◌≡◌, OnOk, OnErr};
+ghost use Rattle.std.specs.Prelude.{◌≡◌, OnOk, OnErr, false};
+ghost use Rattle.ws_model.specs.declared.event.What.TheVariants.{Pushed};
+ghost use Rattle.ws_tries.specs.Stands.{is_any_push};
 ghost use Rattle.ws_core.specs.Follows.{HasHistory};
 ghost use Rattle.ws_core.specs.Stands.{CanFollow, GoesOn};
 
 use crate::Core;
-use ws_model::{Event, NoMemory, What};
+use crate::births::apply_with_rooms;
+use ws_copies::light_copy;
+use ws_model::{Event, How, NoMemory, What};
+use ws_tries::Try;
 
 impl Core {
     /// Applies what happened, which may come next. At an error the core is as it was.
@@ -18,22 +23,48 @@ impl Core {
         Ok(())
     }
 
-    /// Applies what happened, by its kind.
+    /// Applies what happened: a push, or something else.
     fn apply_kind(&mut self, event: &Event) -> Result<(), NoMemory>
         requires follows { CanFollow self.old event.now }
         ensures ok { OnOk result (GoesOn event.now self.old self.new) }
         ensures err { OnErr result (self.new ≡ self.old) }
     {
         match &event.what {
-            What::Confirmed { n, sent } => self.confirmed(event, *n, *sent),
-            What::Fetched(version) => self.fetched(event, version),
             What::Pushed { ver, lease, how } => {
-                self.pushed(event, *ver, *lease, *how);
+                self.apply_pushed(event.serial, event.t, *ver, *lease, *how);
                 Ok(())
             }
-            What::Revoked { n, reason } => self.revoked(event, *n, reason),
-            What::Tally(tally) => self.tallied(event, tally),
-            _ => self.quiet(event),
+            _ => self.apply_other(event),
         }
+    }
+
+    /// Applies the end of a push at `t`, in seconds, which the core accepts as the next event. It takes no
+    /// memory.
+    pub fn apply_pushed(&mut self, serial: u64, t: u64, ver: u64, lease: u64, how: How)
+        requires follows { CanFollow self.old (record { serial = serial; t = t; what = Pushed ver lease how }) }
+        ensures stands { GoesOn (record { serial = serial; t = t; what = Pushed ver lease how }) self.old self.new }
+    {
+        self.ledger.apply_pushed(serial, t, ver, lease, how);
+        self.tries.add(ver, lease, Try { serial, t, how });
+    }
+
+    /// Applies what happened, but a push: the room for all that is taken before anything is changed.
+    fn apply_other(&mut self, event: &Event) -> Result<(), NoMemory>
+        requires other { is_any_push event.now.what ≡ false }
+        requires follows { CanFollow self.old event.now }
+        ensures ok { OnOk result (GoesOn event.now self.old self.new) }
+        ensures err { OnErr result (self.new ≡ self.old) }
+    {
+        let entry = light_copy(self.alloc, event)?;
+        let births = self.ledger.births(event)?;
+        let renewal = self.ledger.renewal(event);
+        self.log.reserve(1)?;
+        self.renewals.reserve(1)?;
+        apply_with_rooms(&mut self.ledger, &mut self.tries, event, &births)?;
+        self.log.push_reserved(entry);
+        if let Some(renewal) = renewal {
+            self.renewals.push_reserved(renewal);
+        }
+        Ok(())
     }
 }

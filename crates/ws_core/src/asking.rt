@@ -1,9 +1,7 @@
 // What the core says of pairs, of work and of requests.
-ghost use Rattle.std.specs.Prelude.{◌≡◌, ◌≤◌, ◌<◌, ◌^◌, ◌==◌, ◌&&◌, ℕ, List, IfOk, option_map, unwrap_or};
+ghost use Rattle.std.specs.Prelude.{◌≡◌, ◌≤◌, ◌<◌, ◌^◌, ◌==◌, ◌&&◌, ℕ, List, IfOk, option_map};
 ghost use Rattle.std.specs.List.{list_any};
 ghost use Rattle.ws_model.specs.declared.event.Event.{Event};
-ghost use Rattle.ws_model.specs.declared.fate.Cause.TheVariants.{Expired};
-ghost use Rattle.ws_model.specs.declared.fate.Fate.TheVariants.{Ended};
 ghost use Rattle.ws_model.specs.Account.{account};
 ghost use Rattle.ws_model.specs.Due.{due};
 ghost use Rattle.ws_model.specs.Legal.{Legal};
@@ -11,7 +9,6 @@ ghost use Rattle.ws_model.specs.Moment.{serial, time};
 ghost use Rattle.ws_model.specs.Pairs.{owed};
 ghost use Rattle.ws_model.specs.Revocation.{revocation};
 ghost use Rattle.ws_model.specs.Verdict.{fate_of};
-ghost use Rattle.ws_delivery.specs.Table.{fate_at, pair_at};
 ghost use Rattle.ws_core_tables.specs.Stands.{first_of, work_of};
 ghost use Rattle.ws_answer.specs.Judged.{Answers};
 ghost use Rattle.ws_port.specs.Requests.{answer};
@@ -20,9 +17,8 @@ ghost use Rattle.ws_core.specs.Stands.{StandsFor};
 use crate::Core;
 use ws_answer::CoreFault;
 use ws_core_tables::DueWork;
-use ws_fate::Standing;
 use ws_form::Ask;
-use ws_model::{Account, Cause, Fate, Held, Key, NoMemory, Policy, What};
+use ws_model::{Account, Fate, Held, Key, NoMemory, Policy, What};
 
 impl Core {
     /// What became of a pair of a version and a lease by `t`, in seconds, or None where the core has no such
@@ -30,20 +26,7 @@ impl Core {
     pub fn fate(&self, ver: u64, lease: u64, t: u64) -> Option<Fate>
         ensures stands { (h : List Event) (since : ℕ) → StandsFor h since self.now → Legal h → since ≤ t → result ≡ fate_of h ver lease t }
     {
-        match self.fates.get(ver, lease) {
-            Some(Standing::Open) => Some(self.open_fate(ver, lease, t)),
-            Some(Standing::Answered) => Some(Fate::Answered),
-            Some(Standing::Ended(cause)) => Some(Fate::Ended(cause)),
-            None => None,
-        }
-    }
-
-    /// How an open pair stands at `t`: owed, or ended with its lease.
-    fn open_fate(&self, ver: u64, lease: u64, t: u64) -> Fate
-        ensures { result ≡ unwrap_or (option_map (fate_at t) (pair_at ver lease self.now.tables.deliveries)) (Ended Expired) }
-    {
-        let fate = self.tables.open_fate(ver, lease, t);
-        fate.unwrap_or(Fate::Ended(Cause::Expired))
+        self.ledger.fate(ver, lease, t)
     }
 
     /// What the history amounts to at `t`, in seconds. It takes no memory.
@@ -51,25 +34,7 @@ impl Core {
         requires in_time { t < 2 ^ 48 }
         ensures stands { (h : List Event) (since : ℕ) → StandsFor h since self.now → Legal h → since ≤ t → result ≡ account h t }
     {
-        let totals = self.fates.totals();
-        let owed = self.tables.owed(t);
-        // Open pairs that aren't owed have expired.
-        let expired = self.open_pairs.saturating_sub(owed);
-        Account {
-            pending: self.tables.pending(),
-            notices: self.tables.notices(),
-            leases: self.tables.live_leases(t),
-            topics: self.tables.topics(),
-            fetches: self.tables.fetches(),
-            owed,
-            answered: totals.answered,
-            expired: totals.expired.saturating_add(expired),
-            unsubscribed: totals.unsubscribed,
-            replaced: totals.replaced,
-            gone: totals.gone,
-            spent: totals.spent,
-            revoked: totals.revoked,
-        }
+        self.ledger.counts(t)
     }
 
     /// The work that is due first at `t`, but what is held: a verification, a notice, a fetch, a push.
@@ -77,7 +42,7 @@ impl Core {
     pub fn due(&self, t: u64, held: &Held) -> Option<DueWork<'_>>
         ensures stands { (h : List Event) (since : ℕ) → StandsFor h since self.now → Legal h → since ≤ t → option_map work_of result ≡ first_of (due h t held.now) }
     {
-        self.tables.due(t, held)
+        self.ledger.due(t, held)
     }
 
     /// What an ask makes at `t`, under a policy: its events in their order, oldest first.
@@ -90,7 +55,7 @@ impl Core {
         requires in_time { t < 2 ^ 48 }
         ensures stands { (h : List Event) (since : ℕ) → StandsFor h since self.now → Legal h → since ≤ t → Answers (answer h t ask.now policy.now) result }
     {
-        ws_answer::judge(self.alloc, &self.tables, t, ask, policy)
+        self.ledger.judge(t, ask, policy)
     }
 
     /// The event that ends the lease of a topic and a callback that is live at `t`, or None where there is
@@ -99,27 +64,27 @@ impl Core {
         requires in_time { t < 2 ^ 48 }
         ensures stands { (h : List Event) (since : ℕ) → StandsFor h since self.now → Legal h → since ≤ t → IfOk result (λ o. o ≡ revocation h t topic.now callback.now) }
     {
-        ws_answer::revocation(self.alloc, &self.tables, t, topic, callback)
+        self.ledger.revocation(t, topic, callback)
     }
 
     /// The greatest time so far, in seconds.
     pub fn time(&self) -> u64
         ensures stands { (h : List Event) (since : ℕ) → StandsFor h since self.now → result ≡ time h }
     {
-        self.tables.time()
+        self.ledger.time()
     }
 
     /// The greatest serial so far.
     pub fn serial(&self) -> u64
         ensures stands { (h : List Event) (since : ℕ) → StandsFor h since self.now → result ≡ serial h }
     {
-        self.tables.serial()
+        self.ledger.serial()
     }
 
     /// Whether a version is owed to a lease at `t`.
     pub fn is_owed(&self, ver: u64, lease: u64, t: u64) -> bool
         ensures stands { (h : List Event) (since : ℕ) → StandsFor h since self.now → since ≤ t → result ≡ list_any (λ p. (p.version.ver == ver) && (p.lease.intent.n == lease)) (owed h t) }
     {
-        self.tables.is_owed(ver, lease, t)
+        self.ledger.is_owed(ver, lease, t)
     }
 }

@@ -17,7 +17,11 @@ impl Core {
         ensures ok { OnOk result (AllGoOn t whats.items self.old self.new) }
         ensures err { OnErr result (self.new ≡ self.old) }
     {
-        self.tables.commit(t, whats)?;
-        Ok(())
+        self.log.reserve(whats.len())?;
+        let mut events = self.ledger.commit(t, whats)?;
+        match self.log.append(&mut events) {
+            Ok(()) => Ok(()),
+            Err(_) => unreachable!(),
+        }
     }
 }

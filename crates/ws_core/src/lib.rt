@@ -1,5 +1,6 @@
-//! The hub's core: the tables with what became of each pair. It applies what happened, and says what may
-//! follow, what is due, what a request and what a ticket's outcome make, and what became of each pair.
+//! The hub's core: the ledger, with what a compaction needs beside it. It applies what happened, and says
+//! what may follow, what is due, what a request and what a ticket's outcome make, what became of each
+//! pair, and what a compaction keeps.
 #![tactic(auto)]
 
 mod accepting;
@@ -7,16 +8,9 @@ mod applying;
 mod asking;
 mod births;
 mod committing;
-mod confirmed;
-mod ends;
-mod fetched;
-pub mod laws;
+
 mod looking;
-mod pushed;
-mod quiet;
 mod settling;
-mod sound;
-mod steps;
 mod whole;
 
 pub use whole::Core;

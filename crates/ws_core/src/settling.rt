@@ -3,12 +3,12 @@ ghost use Rattle.std.specs.Prelude.{◌≡◌, ◌≤◌, ◌<◌, ◌^◌, ℕ,
 ghost use Rattle.ws_model.specs.declared.event.Event.{Event};
 ghost use Rattle.ws_model.specs.Legal.{Legal};
 ghost use Rattle.ws_model.specs.Verdict.{verdict};
-ghost use Rattle.ws_verdict.specs.Settles.{CanSettle, IsLinkOf};
-ghost use Rattle.ws_core.specs.Settles.{IsOfPending};
+ghost use Rattle.ws_verdict.specs.Settles.{IsLinkOf};
+ghost use Rattle.ws_ledger.specs.Settles.{IsOfPending};
 ghost use Rattle.ws_core.specs.Stands.{StandsFor};
 
 use crate::Core;
-use ws_model::{Fate, NoMemory, Outcome, Settled, Work};
+use ws_model::{NoMemory, Outcome, Settled, Work};
 
 impl Core {
     /// What the outcome of the exchange of a ticket makes at `t`, in seconds, of its work, that was drawn at
@@ -26,26 +26,6 @@ impl Core {
         ensures stands { (h : List Event) (since : ℕ) (link : List ℕ) → StandsFor h since self.now → Legal h → since ≤ t → IsOfPending h work.now → IsLinkOf work.now outcome.now link →
             IfOk result (λ s. s ≡ verdict h t work.now sent challenge.now link outcome.now) }
     {
-        let fate = self.fate_by_work(work, t);
-        ws_verdict::settle(
-            self.alloc,
-            &self.tables,
-            fate,
-            t,
-            work,
-            sent,
-            challenge,
-            outcome,
-        )
-    }
-
-    /// The fate at `t` of a push's pair, and nothing of other work.
-    fn fate_by_work(&self, work: &Work, t: u64) -> Option<Fate>
-        ensures stands { (h : List Event) (since : ℕ) → StandsFor h since self.now → Legal h → since ≤ t → IsOfPending h work.now → CanSettle h t work.now result }
-    {
-        match work {
-            Work::Push { ver, lease } => self.fate(*ver, *lease, t),
-            _ => None,
-        }
+        self.ledger.settle(t, work, sent, challenge, outcome)
     }
 }

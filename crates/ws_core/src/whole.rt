@@ -1,21 +1,26 @@
-// The tables, and what became of each pair.
+// The ledger, and what a compaction needs beside it.
 ghost use Rattle.std.specs.Prelude.{[]};
 ghost use Rattle.ws_core.specs.Follows.{HasHistory};
 ghost use Rattle.ws_core.specs.Stands.{StandsFor};
 
 use std::alloc::Global;
 use std::marker::Model;
-use ws_core_tables::Tables;
-use ws_fate::Fates;
+use ws_ledger::Ledger;
+use ws_model::Event;
+use ws_tries::Tries;
 
-/// The hub's core: the four tables, what became of each pair of a version and a lease, and how many pairs
-/// stand open. Contracts see it as the record of what these show.
+/// The hub's core: the ledger, and what a compaction needs beside it. Contracts see it as the record of
+/// what these show.
 #[derive(Drop)]
 pub struct Core {
     pub(crate) alloc: Global,
-    pub(crate) tables: Tables,
-    pub(crate) fates: Fates,
-    pub(crate) open_pairs: u64,
+    pub(crate) ledger: Ledger,
+    /// What happened but pushes, the oldest first. A version is there by its number alone: its texts and
+    /// its body stand in the ledger's tables, as long as it is kept.
+    pub(crate) log: Vec<Event>,
+    /// Each new lease with the lease that it replaced, the oldest first.
+    pub(crate) renewals: Vec<(u64, u64)>,
+    pub(crate) tries: Tries,
 }
 
 impl Model for Core {
@@ -23,7 +28,7 @@ impl Model for Core {
 
     ghost Value = { Rows };
 
-    ghost view = { λ s. record { tables = s.tables; fates = s.fates; open_pairs = s.open_pairs } };
+    ghost view = { λ s. record { ledger = s.ledger; log = s.log.items; renewals = s.renewals.items; tries = s.tries } };
 }
 
 impl Core {
@@ -34,9 +39,10 @@ impl Core {
     {
         Core {
             alloc,
-            tables: Tables::empty(alloc),
-            fates: Fates::empty(alloc),
-            open_pairs: 0,
+            ledger: Ledger::empty(alloc),
+            log: Vec::new(alloc),
+            renewals: Vec::new(alloc),
+            tries: Tries::empty(alloc),
         }
     }
 }

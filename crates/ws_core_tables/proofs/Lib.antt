@@ -11,3 +11,4 @@ pub mod NewVersion
 pub mod HeldBodies
 pub mod LeaseCounts
 pub mod Together
+pub mod Pinged

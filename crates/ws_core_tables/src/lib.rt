@@ -15,6 +15,7 @@ mod fetching;
 mod keeping;
 mod looking;
 mod numbers;
+mod owed_fetch;
 mod tables;
 mod walking;
 

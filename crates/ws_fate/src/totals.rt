@@ -57,7 +57,7 @@ impl Totals {
     }
 
     /// Counts one more pair that was answered or ended. An open one isn't counted.
-    pub(crate) fn add(&mut self, how: Standing)
+    pub fn add(&mut self, how: Standing)
         ensures { self.new ≡ with_one how self.old }
     {
         match how {

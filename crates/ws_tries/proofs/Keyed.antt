@@ -1,28 +1,44 @@
 -- Changes at one key, read by version and lease.
-use Rattle.std.proofs.Common.{◌≡◌, ℕ, ap, ◌∙◌, ◌+◌, ◌&&◌, not, arith, List}
-use Rattle.std.specs.Prelude.{cond, filter, ◌==◌, Option}
-use Rattle.std.specs.Ordering.{is_le}
+use Rattle.std.proofs.Common.{◌≡◌, ℕ, Bool, true, false, refl, ap, sym, ◌∙◌, ◌+◌, ◌&&◌, not, arith, List}
+use Rattle.std.specs.Prelude.{cond, filter, ◌==◌, Option, None}
+use Rattle.std.specs.Ordering.{is_gt, is_le}
+use Rattle.std.specs.declared.cmp.Ordering.TheVariants.{Less}
 use Rattle.std.specs.Map.{lookup}
 use Rattle.std.specs.BTreeMap.{is_at}
+use Rattle.std.proofs.lemmas.Bool.{eqb-true}
 use Rattle.std.proofs.lemmas.Bool.Decides.{nat_tests}
 use Rattle.ws_laws.proofs.ListLaws.{all_from, filter_same}
 use Rattle.ws_tries.specs.declared.room.Try.{Try}
 use Rattle.ws_tries.specs.Rows.{Rows, is_here, pair_order, tries_at}
 
-key_test : (n v m w : ℕ) → is_at (pair_order (n, v)) (m, w) ≡ is_here v n w m
-key_test n v m w = grind (arith, nat_tests)
+pub key_test : (v n w m : ℕ) → is_at (pair_order (v, n)) (w, m) ≡ is_here v n w m
+key_test v n w m = grind (arith, nat_tests)
 
 pub looks_by_key : (old new : Rows) (ver lease : ℕ) (x : Option (List Try))
-    → ((q : ℕ × ℕ) → lookup (is_at (pair_order q)) new ≡ cond (is_at (pair_order (lease, ver)) q) x (lookup (is_at (pair_order q)) old))
+    → ((q : ℕ × ℕ) → lookup (is_at (pair_order q)) new ≡ cond (is_at (pair_order (ver, lease)) q) x (lookup (is_at (pair_order q)) old))
     → (v n : ℕ) → tries_at v n new ≡ cond (is_here ver lease v n) x (tries_at v n old)
-looks_by_key old new ver lease x updates v n = updates (n, v) ∙ ap (λ b. cond b x (tries_at v n old)) (key_test lease ver n v)
+looks_by_key old new ver lease x updates v n = updates (v, n) ∙ ap (λ b. cond b x (tries_at v n old)) (key_test ver lease v n)
 
--- ---- the pairs of one lease
+-- ---- the pairs of one version
 
-in_lease : (lease n v : ℕ) → (is_le (pair_order (lease, 0) (n, v)) && not (is_le (pair_order (lease + 1, 0) (n, v)))) ≡ (n == lease)
-in_lease lease n v = grind (arith, nat_tests)
+in_version : (ver v n : ℕ) → (is_le (pair_order (ver, 0) (v, n)) && not (is_le (pair_order (ver + 1, 0) (v, n)))) ≡ (v == ver)
+in_version ver v n = grind (arith, nat_tests)
 
-pub of_lease : (lease : ℕ) (rows : Rows) → filter (λ e. is_le (pair_order (lease, 0) e.0) && not (is_le (pair_order (lease + 1, 0) e.0))) rows ≡ filter (λ e. e.0.0 == lease) rows
-of_lease lease rows =
-    filter_same (λ e. is_le (pair_order (lease, 0) e.0) && not (is_le (pair_order (lease + 1, 0) e.0))) (λ e. e.0.0 == lease) rows
-    (all_from (λ e. (is_le (pair_order (lease, 0) e.0) && not (is_le (pair_order (lease + 1, 0) e.0))) ≡ (e.0.0 == lease)) (λ e. in_lease lease e.0.0 e.0.1) rows)
+pub from_first : (ver n : ℕ) → is_gt (pair_order (ver, 0) (ver, n)) ≡ false
+from_first ver n = grind (arith, nat_tests)
+
+pub under_next : (ver n : ℕ) → pair_order (ver, n) (ver + 1, 0) ≡ Less
+under_next ver n = grind (arith, nat_tests)
+
+-- where all rooms of a version are gone and no other room changed
+pub version_gone : (ver v n : ℕ) (new old : Rows) → ((m : ℕ) → tries_at ver m new ≡ None) → ((w m : ℕ) → (ver == w) ≡ false → tries_at w m new ≡ tries_at w m old) → tries_at v n new ≡ cond (ver == v) None (tries_at v n old)
+version_gone ver v n new old gone others = by (ver == v) refl
+  where
+    by : (b : Bool) → (ver == v) ≡ b → tries_at v n new ≡ cond b None (tries_at v n old)
+    by true k = ap (λ w. tries_at w n new) (sym (eqb-true ver v k)) ∙ gone n
+    by false k = others v n k
+
+pub of_version : (ver : ℕ) (rows : Rows) → filter (λ e. is_le (pair_order (ver, 0) e.0) && not (is_le (pair_order (ver + 1, 0) e.0))) rows ≡ filter (λ e. e.0.0 == ver) rows
+of_version ver rows =
+    filter_same (λ e. is_le (pair_order (ver, 0) e.0) && not (is_le (pair_order (ver + 1, 0) e.0))) (λ e. e.0.0 == ver) rows
+    (all_from (λ e. (is_le (pair_order (ver, 0) e.0) && not (is_le (pair_order (ver + 1, 0) e.0))) ≡ (e.0.0 == ver)) (λ e. in_version ver e.0.0 e.0.1) rows)

@@ -6,6 +6,8 @@ use Rattle.std.specs.Cmp.{IsTotalOrder, on_total}
 use Rattle.std.specs.List.Sorted.{IsStrictlySortedBy}
 use Rattle.std.specs.Map.{keys_of}
 use Rattle.std.specs.BTreeMap.{BTreeMap}
+use Rattle.std_collections.specs.Layout.BTreeMap.{btree_map}
+use mathlib.Core.Logic.{inl}
 use Rattle.std.proofs.lemmas.Bool.{or_parts}
 use Rattle.std.proofs.lemmas.Cmp.{nat_cmp_total, then_total}
 use Rattle.std.proofs.lemmas.Map.Lookups.{btree_map_from_get, exact_pairs, exact_unsigned}
@@ -21,7 +23,7 @@ pub one_done : (x : Option (List Try)) (p : ℕ × ℕ) (pairs left : List (ℕ 
 one_done x p pairs left old now next change before v n =
     ap (cond (is_listed v n left) x) (change v n) ∙ by (p.0 == v) (p.1 == n) (is_listed v n left) ∙ before v n
   where
-    by : (a b c : Bool) → cond c x (cond (b && a) x (tries_at v n now)) ≡ cond (a && b || c) x (tries_at v n now)
+    by : (a b c : Bool) → cond c x (cond (a && b) x (tries_at v n now)) ≡ cond (a && b || c) x (tries_at v n now)
     by true true true = refl
     by true true false = refl
     by true false true = refl
@@ -53,10 +55,14 @@ undone pairs old now new others v n = by (is_listed v n pairs) refl
 
 -- ---- maps in the order of pairs
 
-total : IsTotalOrder pair_order
+pub total : IsTotalOrder pair_order
 total = then_total (on_total (λ (x : ℕ × ℕ). x.0) nat_cmp_total) (on_total (λ (x : ℕ × ℕ). x.1) nat_cmp_total)
 
 -- such maps are the same where they say the same of each pair
 pub same_map : (m n : BTreeMap (ℕ × ℕ) (List Try)) → IsStrictlySortedBy pair_order (keys_of m.entries) → IsStrictlySortedBy pair_order (keys_of n.entries)
     → ((v w : ℕ) → tries_at v w m.entries ≡ tries_at v w n.entries) → m.entries ≡ n.entries
-same_map m n s t h = btree_map_from_get total m n s t (λ q. h q.1 q.0) (exact_pairs nat_cmp nat_cmp exact_unsigned exact_unsigned)
+same_map m n s t h = btree_map_from_get total m n s t (λ q. h q.0 q.1) (exact_pairs nat_cmp nat_cmp exact_unsigned exact_unsigned)
+
+-- so are rows
+pub same_rows : (old new : Rows) → IsStrictlySortedBy pair_order (keys_of old) → IsStrictlySortedBy pair_order (keys_of new) → ((v n : ℕ) → tries_at v n new ≡ tries_at v n old) → new ≡ old
+same_rows old new s t h = same_map (btree_map new (inl tt)) (btree_map old (inl tt)) t s h

@@ -16,7 +16,7 @@ more : (s t : ℕ) (w : What) (v n : ℕ) (es : List Event)
 more s t (Pushed a b how) v n es = one (a == v) (b == n) refl refl
   where
     one : (c d : Bool) → (a == v) ≡ c → (b == n) ≡ d
-        → reverse es ++ map (event_of v n) (cond {A = List Try} (d && c) (record { serial = s; t = t; how = how } ∷ []) []) ≡ reverse (cond {A = List Event} (c && d && true) (record { serial = s; t = t; what = Pushed a b how } ∷ es) es)
+        → reverse es ++ map (event_of v n) (cond {A = List Try} (c && d) (record { serial = s; t = t; how = how } ∷ []) []) ≡ reverse (cond {A = List Event} (c && d && true) (record { serial = s; t = t; what = Pushed a b how } ∷ es) es)
     one true true k l =
         let same : reverse es ++ event_of v n (record { serial = s; t = t; how = how }) ∷ [] ≡ reverse es ++ record { serial = s; t = t; what = Pushed a b how } ∷ [] =
         λ j. reverse es ++ record { serial = s; t = t; what = Pushed (sym (eqb-true a v k) j) (sym (eqb-true b n l) j) how } ∷ [] in

@@ -35,8 +35,8 @@ use Rattle.ws_tries.specs.Stands.{AtMostEight, HasPlace, Untried, tried, tries_o
 
 -- ---- a pair that isn't there wasn't tried
 
-here_is : (a b v n : ℕ) → is_here a b v n ≡ true → (a ≡ v) × (b ≡ n)
-here_is a b v n k = let p = and_parts (b == n) (a == v) k in (eqb-true a v p.1, eqb-true b n p.0)
+pub here_is : (a b v n : ℕ) → is_here a b v n ≡ true → (a ≡ v) × (b ≡ n)
+here_is a b v n k = let p = and_parts (a == v) (b == n) k in (eqb-true a v p.0, eqb-true b n p.1)
 
 -- whether the pair of these numbers is among them
 abbrev is_there : ℕ → ℕ → List Pair → Bool
@@ -69,20 +69,20 @@ untried h v n l none = none_before h v n l (sym (some_found (λ p. (p.version.ve
 missed_only : (e : Event) (w : What) (o : Option Intent) (v k : ℕ) (l : Lease) → is_push is_done v l.intent.n w ≡ false → is_none (end_by w o l) ≡ true → k + length (tried v l.intent.n e w) ≡ cond (is_push is_miss v l.intent.n w) (suc k) k
 missed_only e (Pushed a b Done) o v k l undone lives = one (a == v) (b == l.intent.n) undone
   where
-    one : (c d : Bool) → (c && d && true) ≡ false → k + length (cond {A = List Try} (d && c) (record { serial = e.serial; t = e.t; how = Done } ∷ []) []) ≡ cond (c && d && false) (suc k) k
+    one : (c d : Bool) → (c && d && true) ≡ false → k + length (cond {A = List Try} (c && d) (record { serial = e.serial; t = e.t; how = Done } ∷ []) []) ≡ cond (c && d && false) (suc k) k
     one true true u = absurd (false≢true (sym u))
     one true false u = omega arith
     one false true u = omega arith
     one false false u = omega arith
 missed_only e (Pushed a b Gone) o v k l undone lives = one (a == v) (b == l.intent.n) lives
   where
-    one : (c d : Bool) → is_none (cond d (Some LeaseGone) None) ≡ true → k + length (cond {A = List Try} (d && c) (record { serial = e.serial; t = e.t; how = Gone } ∷ []) []) ≡ cond (c && d && false) (suc k) k
+    one : (c d : Bool) → is_none (cond d (Some LeaseGone) None) ≡ true → k + length (cond {A = List Try} (c && d) (record { serial = e.serial; t = e.t; how = Gone } ∷ []) []) ≡ cond (c && d && false) (suc k) k
     one c true u = absurd (false≢true u)
     one true false u = omega arith
     one false false u = omega arith
 missed_only e (Pushed a b (Missed code)) o v k l undone lives = one (a == v) (b == l.intent.n)
   where
-    one : (c d : Bool) → k + length (cond {A = List Try} (d && c) (record { serial = e.serial; t = e.t; how = Missed code } ∷ []) []) ≡ cond (c && d && true) (suc k) k
+    one : (c d : Bool) → k + length (cond {A = List Try} (c && d) (record { serial = e.serial; t = e.t; how = Missed code } ∷ []) []) ≡ cond (c && d && true) (suc k) k
     one true true = omega arith
     one true false = omega arith
     one false true = omega arith

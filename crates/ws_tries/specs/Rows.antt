@@ -7,21 +7,21 @@ use Rattle.std.specs.Map.{lookup}
 use Rattle.std.specs.BTreeMap.{is_at}
 use Rattle.ws_tries.specs.declared.room.Try.{Try}
 
--- the pairs that have a room, by lease and version, each with its tries, the oldest first
+-- the pairs that have a room, by version and lease, each with its tries, the oldest first
 abbrev pub Rows : Type 0
 Rows = List ((ℕ × ℕ) × List Try)
 
--- by lease, then by version
+-- by version, then by lease
 abbrev pub pair_order : ℕ × ℕ → ℕ × ℕ → Ordering
 pair_order x y = ordering_then (nat_cmp x.0 y.0) (nat_cmp x.1 y.1)
 
 -- the tries of the pair of this version and this lease, where it has a room
 abbrev pub tries_at : ℕ → ℕ → Rows → Option (List Try)
-tries_at v n rows = lookup (is_at (pair_order (n, v))) rows
+tries_at v n rows = lookup (is_at (pair_order (v, n))) rows
 
 -- it is this version and this lease
 abbrev pub is_here : ℕ → ℕ → ℕ → ℕ → Bool
-is_here ver lease v n = (lease == n) && (ver == v)
+is_here ver lease v n = (ver == v) && (lease == n)
 
 -- the pair is one of these, each a version and a lease
 abbrev pub is_listed : ℕ → ℕ → List (ℕ × ℕ) → Bool

@@ -1,12 +1,13 @@
 -- For which history the rooms of a table stand, and how they go on (own).
-use Rattle.std.specs.Prelude.{◌≡◌, ℕ, ◌≤◌, ◌<◌, Bool, true, false, cond, List, [], ◌∷◌, ◌++◌, length, map, filter, reverse, option_map, Some, None, IfSome}
+use Rattle.std.specs.Prelude.{◌≡◌, ℕ, ◌≤◌, ◌<◌, Bool, true, false, cond, List, [], ◌∷◌, ◌++◌, length, map, filter, reverse, option_map, Some, None, is_some, IfSome, IsSome, ◌==◌}
 use Rattle.ws_model.specs.declared.event.Event.{Event}
 use Rattle.ws_model.specs.declared.event.How.{How}
 use Rattle.ws_model.specs.declared.event.What.{What}
 use Rattle.ws_model.specs.declared.event.What.TheVariants.{Pushed}
 use Rattle.ws_model.specs.Fate.{is_push}
 use Rattle.ws_model.specs.Legal.{Legal}
-use Rattle.ws_model.specs.Verdict.{pair_of}
+use Rattle.ws_model.specs.Keep.{kept_leases, member}
+use Rattle.ws_model.specs.Verdict.{is_kept_version, pair_of}
 use Rattle.ws_tries.specs.declared.room.Try.{Try}
 use Rattle.ws_tries.specs.Rows.{Rows, is_here, tries_at}
 
@@ -31,6 +32,12 @@ ArePushes = (h : List Event) (v n : ℕ) → map (event_of v n) (tries_of h v n)
 -- each pair that has a room has exactly its tries of the history there
 abbrev pub StandsFor : List Event → Rows → Type 0
 StandsFor h rows = (v n : ℕ) → IfSome (tries_at v n rows) (λ tries. tries ≡ tries_of h v n)
+
+-- each kept pair of the history, of a version and of a lease that a compaction at t would keep, has a room
+abbrev pub HaveRooms : List Event → ℕ → Rows → Type 0
+HaveRooms h t rows =
+    (v n : ℕ)
+    → is_kept_version h t v ≡ true → member n (kept_leases h t) ≡ true → is_some (pair_of h v n) ≡ true → IsSome (tries_at v n rows)
 
 -- ---- by one event
 
@@ -61,6 +68,11 @@ abbrev pub GivesBack : Type 0
 GivesBack =
     (h : List Event) (ver lease : ℕ) (old new : Rows)
     → StandsFor h old → ((v n : ℕ) → tries_at v n new ≡ cond (is_here ver lease v n) None (tries_at v n old)) → StandsFor h new
+
+abbrev pub GivesBackVersion : Type 0
+GivesBackVersion =
+    (h : List Event) (ver : ℕ) (old new : Rows)
+    → StandsFor h old → ((v n : ℕ) → tries_at v n new ≡ cond (ver == v) None (tries_at v n old)) → StandsFor h new
 
 -- ---- how many tries there are
 

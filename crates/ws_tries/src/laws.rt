@@ -1,5 +1,5 @@
 // How the rooms go on with the history. Each function's contract is a law, and its body is empty.
-ghost use Rattle.ws_tries.specs.Stands.{ArePushes, AtMostEight, GivesBack, MakesRoom, HasPlace, StandsAfter, StandsOn, Untried};
+ghost use Rattle.ws_tries.specs.Stands.{ArePushes, AtMostEight, GivesBack, GivesBackVersion, MakesRoom, HasPlace, StandsAfter, StandsOn, Untried};
 
 /// The tries of a pair that a history has are, as events, its pushes, the oldest first.
 pub fn are_pushes()
@@ -25,6 +25,11 @@ pub fn makes_room()
 /// A room may be given back.
 pub fn gives_back()
     ensures { GivesBack }
+{}
+
+/// The rooms of a version may be given back.
+pub fn gives_back_version()
+    ensures { GivesBackVersion }
 {}
 
 /// A legal history has no push of a pair that it doesn't have.

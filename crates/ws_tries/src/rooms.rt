@@ -1,5 +1,5 @@
 // Rooms that are made for several pairs together or not at all, and given back.
-ghost use Rattle.std.specs.Prelude.{◌≡◌, ℕ, [], None, Some, cond, false, true, OnOk, OnErr};
+ghost use Rattle.std.specs.Prelude.{◌≡◌, ◌<◌, ◌^◌, ◌==◌, ℕ, [], None, Some, cond, false, true, length, IfNone, IfSome, IsSome, OnOk, OnErr};
 ghost use Rattle.ws_tries.specs.Rows.{is_here, is_listed, tries_at};
 
 use crate::Room;
@@ -53,7 +53,7 @@ pub(crate) fn make(
     ensures err { OnErr result (by_pair.new.entries ≡ by_pair.old.entries) }
 {
     let room = Room::new(alloc)?;
-    by_pair.insert((lease, ver), room)?;
+    by_pair.insert((ver, lease), room)?;
     Ok(())
 }
 
@@ -69,6 +69,27 @@ pub(crate) fn give_back_each(by_pair: &mut ByPair, pairs: &[(u64, u64)])
 /// Takes the room of a pair away, where it has one.
 pub(crate) fn give_back(by_pair: &mut ByPair, ver: u64, lease: u64)
     ensures look { (v n : ℕ) → tries_at v n by_pair.new.entries ≡ cond (is_here ver lease v n) None (tries_at v n by_pair.old.entries) }
+    ensures fewer { IsSome (tries_at ver lease by_pair.old.entries) → length by_pair.new.entries < length by_pair.old.entries }
 {
-    let _ = by_pair.remove(&(lease, ver));
+    let _ = by_pair.remove(&(ver, lease));
+}
+
+/// Takes the rooms of all pairs of a version away.
+pub(crate) fn give_back_version(by_pair: &mut ByPair, ver: u64)
+    requires { ver < 2 ^ 63 }
+    ensures look { (v n : ℕ) → tries_at v n by_pair.new.entries ≡ cond (ver == v) None (tries_at v n by_pair.old.entries) }
+{
+    while let Some(lease) = first_of(by_pair, ver) {
+        give_back(by_pair, ver, lease);
+    }
+}
+
+// The lowest lease whose pair with this version has a room.
+fn first_of(by_pair: &ByPair, ver: u64) -> Option<u64>
+    requires { ver < 2 ^ 63 }
+    ensures found { IfSome result (λ n. IsSome (tries_at ver n by_pair.now.entries)) }
+    ensures none { IfNone result ((n : ℕ) → tries_at ver n by_pair.now.entries ≡ None) }
+{
+    let (pair, _) = by_pair.range((ver, 0)..(ver + 1, 0)).next()?;
+    Some(pair.1)
 }

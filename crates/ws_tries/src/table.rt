@@ -16,7 +16,7 @@ use std::marker::Model;
 use ws_model::NoMemory;
 
 /// The pairs of a version and a lease that have a room, each with its tries. Contracts see them as a
-/// list by lease and version.
+/// list by version and lease.
 #[derive(Drop)]
 pub struct Tries {
     alloc: Global,
@@ -47,10 +47,10 @@ impl Tries {
     pub fn of(&self, ver: u64, lease: u64) -> Option<&[Try]>
         ensures { option_map (λ s. s.now) result ≡ tries_at ver lease self.now }
     {
-        Some(self.by_pair.get(&(lease, ver))?.as_slice())
+        Some(self.by_pair.get(&(ver, lease))?.as_slice())
     }
 
-    /// The pairs by lease and version, each as these two numbers in this order, with their rooms. It
+    /// The pairs by version and lease, each as these two numbers in this order, with their rooms. It
     /// takes no memory.
     pub fn rooms(&self) -> Iter<'_, (u64, u64), Room>
         ensures rest { result ≡ self.now }
@@ -59,13 +59,13 @@ impl Tries {
         self.by_pair.iter()
     }
 
-    /// The pairs of one lease by version, each as the numbers of its lease and its version, with their
+    /// The pairs of one version by lease, each as the numbers of its version and its lease, with their
     /// rooms. It takes no memory.
-    pub fn rooms_of(&self, lease: u64) -> Range<'_, (u64, u64), Room>
-        requires { lease < 2 ^ 63 }
-        ensures { result ≡ filter (λ e. e.0.0 == lease) self.now }
+    pub fn rooms_of(&self, ver: u64) -> Range<'_, (u64, u64), Room>
+        requires { ver < 2 ^ 63 }
+        ensures { result ≡ filter (λ e. e.0.0 == ver) self.now }
     {
-        self.by_pair.range((lease, 0)..(lease + 1, 0))
+        self.by_pair.range((ver, 0)..(ver + 1, 0))
     }
 
     /// Gives a pair a room without tries, in which eight have their place. At an error the table is as
@@ -93,7 +93,7 @@ impl Tries {
         requires room { IsSomeAnd (tries_at ver lease self.old) (λ tries. length tries < 8) }
         ensures look { (v n : ℕ) → tries_at v n self.new ≡ cond (is_here ver lease v n) (option_map (λ tries. tries ++ made ∷ []) (tries_at ver lease self.old)) (tries_at v n self.old) }
     {
-        match self.by_pair.get_mut(&(lease, ver)) {
+        match self.by_pair.get_mut(&(ver, lease)) {
             Some(room) => room.add(made),
             None => unreachable!(),
         }
@@ -105,6 +105,15 @@ impl Tries {
         ensures look { (v n : ℕ) → tries_at v n self.new ≡ cond (is_here ver lease v n) None (tries_at v n self.old) }
     {
         rooms::give_back(&mut self.by_pair, ver, lease);
+    }
+
+    /// Takes the rooms of all pairs of a version away, with their tries. It takes no memory. A version
+    /// without a room changes nothing.
+    pub fn give_back_version(&mut self, ver: u64)
+        requires { ver < 2 ^ 63 }
+        ensures look { (v n : ℕ) → tries_at v n self.new ≡ cond (ver == v) None (tries_at v n self.old) }
+    {
+        rooms::give_back_version(&mut self.by_pair, ver);
     }
 
     /// Takes the rooms of these pairs, each a version and a lease, away, with their tries. It takes no

@@ -3,4 +3,4 @@ use Rattle.ws_core.specs.Stands.{StandsFor}
 use Rattle.ws_core.proofs.whole.Core.is_owed.Goals as goal
 
 pub returns : goal.returns
-returns c = record { stands = λ h since s k. c.is_owed.ensures.stands h since (subst (StandsFor h since) (sym c.self.view_is) s).tables k }
+returns c = record { stands = λ h since s k. c.is_owed.ensures.stands h since (subst (StandsFor h since) (sym c.self.view_is) s).ledger k }

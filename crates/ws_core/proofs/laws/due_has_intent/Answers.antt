@@ -1,5 +1,0 @@
-use Rattle.ws_core.proofs.Needed.{due_has_intent}
-use Rattle.ws_core.proofs.laws.due_has_intent.Goals as goal
-
-pub returns : goal.returns
-returns c = due_has_intent

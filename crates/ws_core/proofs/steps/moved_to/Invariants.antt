@@ -1,6 +1,0 @@
-use Rattle.std.proofs.Common.{◌≡◌, ◌++◌, drop}
-use Rattle.ws_core.specs.Pairs.{moved_to}
-use Rattle.ws_core.proofs.steps.moved_to.Given as goal
-
-abbrev pub invariant-loop-pair : goal.invariant-loop-pair
-invariant-loop-pair l = l.moved.items ++ moved_to l.lease (drop l.pair-index l.pairs) ≡ moved_to l.lease l.pairs

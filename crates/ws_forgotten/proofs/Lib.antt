@@ -1,0 +1,5 @@
+pub mod Rows
+pub mod OneByOne
+pub mod Told
+pub mod Shown
+pub mod Whole

@@ -1,0 +1,71 @@
+-- What the log's first event says of forgotten pairs.
+use Rattle.std.proofs.Common.{◌≡◌, ℕ, Bool, true, false, cond, List, [], ◌∷◌, ◌++◌, refl, ap, sym, ◌∙◌}
+use Rattle.std.specs.Prelude.{filter, map, not, reverse}
+use Rattle.std.proofs.lemmas.Bool.{false≢true}
+use Rattle.std.proofs.lemmas.List.{map-append, reverse-append}
+use Rattle.ws_model.specs.declared.event.Event.{Event}
+use Rattle.ws_model.specs.declared.event.Tally.{Tally as TallyFields}
+use Rattle.ws_model.specs.declared.event.What.{What}
+use Rattle.ws_model.specs.declared.event.What.TheVariants.{Fetched, Pushed, Tally}
+use Rattle.ws_model.specs.Account.{first_or_zero, tallies, tallies_of}
+use Rattle.ws_model.specs.Legal.{Legal, accepts_what}
+use Rattle.ws_tries.specs.Stands.{is_any_push}
+use Rattle.ws_fate.specs.declared.totals.Totals.{Totals}
+use Rattle.ws_fate.specs.Totals.{none}
+use Rattle.ws_kept.specs.Stands.{light, light_event, log_of}
+use Rattle.ws_forgotten.specs.Forgotten.{told, told_first}
+
+-- what the first of such Tallies says, or nothing
+abbrev pub first_told : List TallyFields → Totals
+first_told cs =
+    record {
+      answered = first_or_zero (map (λ c. c.answered) cs);
+      expired = first_or_zero (map (λ c. c.expired) cs);
+      unsubscribed = first_or_zero (map (λ c. c.unsubscribed) cs);
+      replaced = first_or_zero (map (λ c. c.replaced) cs);
+      gone = first_or_zero (map (λ c. c.gone) cs);
+      spent = first_or_zero (map (λ c. c.spent) cs);
+      revoked = first_or_zero (map (λ c. c.revoked) cs);
+    }
+
+-- ---- an event that isn't the first
+
+untold : (e f : Event) (h : List Event) (w : What) → accepts_what e (f ∷ h) w ≡ true → told w ≡ none
+untold e f h (Tally c) k = absurd (false≢true k)
+untold e f h _ k = refl
+
+untallied : (e f : Event) (h : List Event) (w : What) → accepts_what e (f ∷ h) w ≡ true → tallies_of w ≡ []
+untallied e f h (Tally c) k = absurd (false≢true k)
+untallied e f h _ k = refl
+
+told_light : (w : What) → told (light w) ≡ told w
+told_light (Fetched v) = refl
+told_light _ = refl
+
+last_untold : (log : List Event) (e : Event) → told e.what ≡ none → told_first (log ++ e ∷ []) ≡ told_first log
+last_untold [] e k = k
+last_untold (f ∷ log) e k = refl
+
+newest_untold : (e : Event) (es : List Event) (b : Bool) → told e.what ≡ none → told_first (map light_event (reverse (cond b (e ∷ es) es))) ≡ told_first (map light_event (reverse es))
+newest_untold e es true k =
+    ap (λ xs. told_first (map light_event xs)) (reverse-append (e ∷ []) es)
+    ∙ ap told_first (map-append light_event (reverse es) (e ∷ []))
+    ∙ last_untold (map light_event (reverse es)) (light_event e) (told_light e.what ∙ k)
+newest_untold e es false k = refl
+
+-- ---- all events
+
+alone : (s t : ℕ) (w : What) → told_first (log_of (record { serial = s; t = t; what = w } ∷ [])) ≡ first_told (tallies (record { serial = s; t = t; what = w } ∷ []))
+alone s t (Tally c) = refl
+alone s t (Fetched v) = refl
+alone s t (Pushed v n how) = refl
+alone s t _ = refl
+
+-- in the log of a legal history only the first event can be a Tally
+pub log_told : (h : List Event) → Legal h → told_first (log_of h) ≡ first_told (tallies h)
+log_told [] l = refl
+log_told (e ∷ []) l = alone e.serial e.t e.what
+log_told (e ∷ f ∷ h) l =
+    newest_untold e (filter (λ x. not (is_any_push x.what)) (f ∷ h)) (not (is_any_push e.what)) (untold e f h e.what l.1)
+    ∙ log_told (f ∷ h) l.0
+    ∙ sym (ap (λ cs. first_told (cs ++ tallies (f ∷ h))) (untallied e f h e.what l.1))

@@ -1,0 +1,16 @@
+pub mod Acceptance
+pub mod Bearing
+pub mod Beginning
+pub mod Counted
+pub mod Closing
+pub mod Ending
+pub mod FateOf
+pub mod Following
+pub mod Going
+pub mod InTurn
+pub mod Needed
+pub mod ByKind
+pub mod Lists
+pub mod NewPairs
+pub mod OwedPairs
+pub mod Together

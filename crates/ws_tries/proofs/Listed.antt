@@ -6,8 +6,6 @@ use Rattle.std.specs.Cmp.{IsTotalOrder, on_total}
 use Rattle.std.specs.List.Sorted.{IsStrictlySortedBy}
 use Rattle.std.specs.Map.{keys_of}
 use Rattle.std.specs.BTreeMap.{BTreeMap}
-use Rattle.std_collections.specs.Layout.BTreeMap.{btree_map}
-use mathlib.Core.Logic.{inl}
 use Rattle.std.proofs.lemmas.Bool.{or_parts}
 use Rattle.std.proofs.lemmas.Cmp.{nat_cmp_total, then_total}
 use Rattle.std.proofs.lemmas.Map.Lookups.{btree_map_from_get, exact_pairs, exact_unsigned}
@@ -62,7 +60,3 @@ total = then_total (on_total (λ (x : ℕ × ℕ). x.0) nat_cmp_total) (on_total
 pub same_map : (m n : BTreeMap (ℕ × ℕ) (List Try)) → IsStrictlySortedBy pair_order (keys_of m.entries) → IsStrictlySortedBy pair_order (keys_of n.entries)
     → ((v w : ℕ) → tries_at v w m.entries ≡ tries_at v w n.entries) → m.entries ≡ n.entries
 same_map m n s t h = btree_map_from_get total m n s t (λ q. h q.0 q.1) (exact_pairs nat_cmp nat_cmp exact_unsigned exact_unsigned)
-
--- so are rows
-pub same_rows : (old new : Rows) → IsStrictlySortedBy pair_order (keys_of old) → IsStrictlySortedBy pair_order (keys_of new) → ((v n : ℕ) → tries_at v n new ≡ tries_at v n old) → new ≡ old
-same_rows old new s t h = same_map (btree_map new (inl tt)) (btree_map old (inl tt)) t s h

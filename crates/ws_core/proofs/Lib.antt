@@ -4,3 +4,4 @@ pub mod Log
 pub mod Going
 pub mod SameRooms
 pub mod AllKept
+pub mod GivingBack

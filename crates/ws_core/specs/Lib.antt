@@ -3,3 +3,4 @@ pub mod Rows
 pub mod Stands
 pub mod Follows
 pub mod Committing
+pub mod GivenBack

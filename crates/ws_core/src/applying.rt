@@ -4,20 +4,24 @@ ghost use Rattle.std.specs.Vec.{vec_capacity, vec_len};
 ghost use Rattle.ws_model.specs.declared.event.What.TheVariants.{Pushed};
 ghost use Rattle.ws_tries.specs.Stands.{is_any_push};
 ghost use Rattle.ws_core.specs.Follows.{HasHistory};
+ghost use Rattle.ws_core.specs.GivenBack.{RoomsAreGone};
 ghost use Rattle.ws_core.specs.Renewed.{listed};
 ghost use Rattle.ws_core.specs.Stands.{CanFollow, GoesOn};
 
 use crate::Core;
 use crate::births::apply_with_rooms;
+use crate::giving_back::{give_back, touched_by, touched_by_push};
 use ws_copies::light_copy;
 use ws_model::{Event, How, NoMemory, What};
 use ws_tries::Try;
 
 impl Core {
-    /// Applies what happened, which may come next. At an error the core is as it was.
+    /// Applies what happened, which may come next. The rooms of versions that no compaction would keep any
+    /// more are given back. At an error the core is as it was.
     pub fn apply(&mut self, event: &Event) -> Result<(), NoMemory>
         requires follows { CanFollow self.old event.now }
         ensures ok { OnOk result (GoesOn event.now self.old self.new) }
+        ensures gone { OnOk result (RoomsAreGone event.now self.old self.new) }
         ensures history { OnOk result (HasHistory self.new) }
         ensures err { OnErr result (self.new ≡ self.old) }
     {
@@ -29,6 +33,7 @@ impl Core {
     fn apply_kind(&mut self, event: &Event) -> Result<(), NoMemory>
         requires follows { CanFollow self.old event.now }
         ensures ok { OnOk result (GoesOn event.now self.old self.new) }
+        ensures gone { OnOk result (RoomsAreGone event.now self.old self.new) }
         ensures err { OnErr result (self.new ≡ self.old) }
     {
         match &event.what {
@@ -40,14 +45,17 @@ impl Core {
         }
     }
 
-    /// Applies the end of a push at `t`, in seconds, which the core accepts as the next event. It takes no
-    /// memory.
+    /// Applies the end of a push at `t`, in seconds, which the core accepts as the next event. The rooms of
+    /// its version are given back where no compaction would keep it any more. It takes no memory.
     pub fn apply_pushed(&mut self, serial: u64, t: u64, ver: u64, lease: u64, how: How)
         requires follows { CanFollow self.old (record { serial = serial; t = t; what = Pushed ver lease how }) }
         ensures stands { GoesOn (record { serial = serial; t = t; what = Pushed ver lease how }) self.old self.new }
+        ensures gone { RoomsAreGone (record { serial = serial; t = t; what = Pushed ver lease how }) self.old self.new }
     {
         self.ledger.apply_pushed(serial, t, ver, lease, how);
         self.tries.add(ver, lease, Try { serial, t, how });
+        let touched = touched_by_push(ver, lease, how);
+        give_back(&self.ledger, &mut self.tries, touched);
     }
 
     /// Applies what happened, but a push: the room for all that is taken before anything is changed.
@@ -55,16 +63,19 @@ impl Core {
         requires other { is_any_push event.now.what ≡ false }
         requires follows { CanFollow self.old event.now }
         ensures ok { OnOk result (GoesOn event.now self.old self.new) }
+        ensures gone { OnOk result (RoomsAreGone event.now self.old self.new) }
         ensures err { OnErr result (self.new ≡ self.old) }
     {
         let entry = light_copy(self.alloc, event)?;
         let births = self.ledger.births(event)?;
         let renewal = self.ledger.renewal(event);
+        let touched = touched_by(&self.ledger, event);
         self.log.reserve(1)?;
         self.renewals.reserve(1)?;
         apply_with_rooms(&mut self.ledger, &mut self.tries, event, &births)?;
         self.log.push_reserved(entry);
         add_reserved(&mut self.renewals, renewal);
+        give_back(&self.ledger, &mut self.tries, touched);
         Ok(())
     }
 }

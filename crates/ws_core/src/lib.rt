@@ -8,6 +8,7 @@ mod applying;
 mod asking;
 mod births;
 mod committing;
+mod giving_back;
 mod keeping;
 mod looking;
 mod settling;

@@ -2,6 +2,6 @@ mod First
 mod Latest
 mod Lists
 mod Once
-mod Owed
+pub mod Owed
 mod Renewed
 mod WentOver

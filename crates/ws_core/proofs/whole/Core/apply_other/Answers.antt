@@ -1,9 +1,11 @@
 use Rattle.std.proofs.Common.{◌≡◌, true, refl, ap, ◌∙◌, ◌++◌, ◌∷◌, [], sym, subst}
 use Rattle.ws_tries.specs.Rows.{is_listed, tries_at}
 use Rattle.std.specs.Prelude.{cond, Some}
+use Rattle.ws_core.specs.GivenBack.{RoomsAreGone, is_meant}
 use Rattle.ws_core.specs.Renewed.{listed}
 use Rattle.ws_core.specs.Rows.{Rows}
 use Rattle.ws_core.specs.Stands.{GoesOn, StandsFor}
+use Rattle.ws_core.proofs.GivingBack.{goes_on, rooms_gone}
 use Rattle.ws_core.proofs.Going.{other_goes, without_rooms}
 use Rattle.ws_core.proofs.whole.Core.apply_other.Goals as goal
 
@@ -14,12 +16,17 @@ apply_with_rooms-requires-clause-new c v n k =
     without_rooms c.args.event.now f.past c.in_ok-births.births.items f.since (record { ledger = c.self.inside.ledger; log = c.self.inside.log.items; renewals = c.self.inside.renewals.items; tries = c.self.inside.tries }) inside
     (c.in_ok-births.ensures f.past f.since inside.ledger f.legal f.in_time) v n (subst (λ ps. is_listed v n ps ≡ true) c.deref.ensures.value k)
 
-pub returns-clause-ok : goal.returns-clause-ok
-returns-clause-ok c =
+pub returns : goal.returns
+returns c =
     let old : Rows = record { ledger = c.self.inside.ledger; log = c.self.inside.log.items; renewals = c.self.inside.renewals.items; tries = c.self.inside.tries } in
-    let new : Rows = record { ledger = c.apply_with_rooms.new.ledger; log = c.push_reserved.new.self.items; renewals = c.add_reserved.new.renewals.items; tries = c.apply_with_rooms.new.tries } in
-    subst (λ (r : Rows). GoesOn c.args.event.now r new) c.self.view_is
-    (other_goes c.args.event.now c.in_ok-births.births.items c.renewal-renewal.result old new c.requires.other c.in_ok-apply_with_rooms.ensures.ledger c.in_ok-births.ensures c.renewal-renewal.ensures
+    let mid : Rows = record { ledger = c.apply_with_rooms.new.ledger; log = c.push_reserved.new.self.items; renewals = c.add_reserved.new.renewals.items; tries = c.apply_with_rooms.new.tries } in
+    let new : Rows = record { ledger = c.apply_with_rooms.new.ledger; log = c.push_reserved.new.self.items; renewals = c.add_reserved.new.renewals.items; tries = c.give_back.new.tries } in
+    let goes = other_goes c.args.event.now c.in_ok-births.births.items c.renewal-renewal.result old mid c.requires.other c.in_ok-apply_with_rooms.ensures.ledger c.in_ok-births.ensures c.renewal-renewal.ensures
     (c.push_reserved.ensures.items ∙ (λ j. c.in_ok-reserve.ensures.items j ++ c.in_ok-entry.ensures j ∷ []))
     (c.add_reserved.ensures ∙ ap (λ rs. rs ++ listed c.renewal-renewal.result) c.in_ok-reserve-2.ensures.items)
-    (λ v n. c.in_ok-apply_with_rooms.ensures.rooms v n ∙ ap (λ ps. cond (is_listed v n ps) (Some []) (tries_at v n c.self.inside.tries)) c.deref.ensures.value))
+    (λ v n. c.in_ok-apply_with_rooms.ensures.rooms v n ∙ ap (λ ps. cond (is_listed v n ps) (Some []) (tries_at v n c.self.inside.tries)) c.deref.ensures.value) in
+    record {
+      ok = subst (λ (r : Rows). GoesOn c.args.event.now r new) c.self.view_is (goes_on c.args.event.now (is_meant c.touched_by-touched.result c.apply_with_rooms.new.ledger.fates) old mid c.give_back.new.tries goes c.give_back.ensures);
+      gone = subst (λ (r : Rows). RoomsAreGone c.args.event.now r new) c.self.view_is (rooms_gone c.args.event.now c.touched_by-touched.result old mid c.give_back.new.tries goes c.give_back.ensures (λ h since s l le. c.touched_by-touched.ensures.stands h since s.ledger l le));
+      err = tt;
+    }

@@ -1,0 +1,144 @@
+// Rooms that are given back: those of versions that no compaction would keep. It takes no memory.
+ghost use Rattle.std.specs.Prelude.{◌≡◌, ◌==◌, ◌<◌, ◌≤◌, ◌^◌, ℕ, List, false, true, filter};
+ghost use Rattle.std.specs.List.{list_any};
+ghost use Rattle.ws_model.specs.declared.event.Event.{Event};
+ghost use Rattle.ws_model.specs.declared.event.What.TheVariants.{Confirmed};
+ghost use Rattle.ws_model.specs.Legal.{Legal, pending_of};
+ghost use Rattle.ws_model.specs.Versions.{latest_of};
+ghost use Rattle.ws_tries.specs.Stands.{is_any_push};
+ghost use Rattle.ws_core_tables.specs.Stands.{StandsFor as TablesStand};
+ghost use Rattle.ws_ledger.specs.Stands.{CanFollow, StandsFor as LedgerStands};
+ghost use Rattle.ws_core.specs.declared.giving_back.Touched.TheVariants.{Lease};
+ghost use Rattle.ws_core.specs.GivenBack.{GivesBack, former, is_meant, is_past, of_lease, touched_by_end, touched_by_push, touched_of};
+
+use ws_core_tables::Tables;
+use ws_kept::is_latest;
+use ws_ledger::Ledger;
+use ws_model::{Event, How, Mode, What};
+use ws_tries::Tries;
+
+/// The number of a version or a lease is below it.
+const NUMBER_LIMIT: u64 = 9_223_372_036_854_775_808;
+
+/// What an event touches, so that rooms may go: a version, or all those of a lease.
+#[derive(Clone, Copy)]
+pub(crate) enum Touched {
+    Nothing,
+    Version(u64),
+    Lease(u64),
+}
+
+// ---- what is touched
+
+/// What a push touches that ended: its version, and with a 410 all versions of its lease.
+pub(crate) fn touched_by_push(ver: u64, lease: u64, how: How) -> Touched
+    ensures { result ≡ touched_by_push ver lease how }
+{
+    match how {
+        How::Done | How::Missed(_) => Touched::Version(ver),
+        How::Gone => Touched::Lease(lease),
+    }
+}
+
+/// What any other event touches which may come next, asked before it is applied: a new version touches
+/// that which is the latest of its topic; a revocation, and the confirmed end of a subscription, touch the
+/// versions of the lease.
+pub(crate) fn touched_by(ledger: &Ledger, event: &Event) -> Touched
+    requires other { is_any_push event.now.what ≡ false }
+    requires follows { CanFollow ledger.now event.now }
+    ensures stands { (h : List Event) (since : ℕ) → LedgerStands h since ledger.now → Legal h → since ≤ event.now.t → result ≡ touched_of h event.now.t event.now.what }
+{
+    match &event.what {
+        What::Fetched(version) => former(ledger.tables(), version.topic.as_slice()),
+        What::Confirmed { n, sent } => touched_by_confirmation(ledger, event, *n, *sent),
+        What::Revoked { n, .. } => Touched::Lease(*n),
+        _ => Touched::Nothing,
+    }
+}
+
+/// What a confirmation touches: the versions of the live lease, where it ends a subscription.
+fn touched_by_confirmation(ledger: &Ledger, event: &Event, n: u64, _sent: u64) -> Touched
+    requires kind { event.now.what ≡ Confirmed n _sent }
+    requires follows { CanFollow ledger.now event.now }
+    ensures stands { (h : List Event) (since : ℕ) → LedgerStands h since ledger.now → Legal h → since ≤ event.now.t → result ≡ touched_by_end h event.now.t (pending_of h n) }
+{
+    let tables = ledger.tables();
+    match tables.mode_of_pending(n) {
+        Mode::On => Touched::Nothing,
+        Mode::Off => of_lease(tables.lease_of_pending(n, event.t)),
+    }
+}
+
+fn of_lease(lease: Option<u64>) -> Touched
+    ensures { result ≡ of_lease lease }
+{
+    match lease {
+        Some(lease) => Touched::Lease(lease),
+        None => Touched::Nothing,
+    }
+}
+
+/// The latest version of a topic.
+fn former(tables: &Tables, topic: &[u8]) -> Touched
+    ensures stands { (h : List Event) (since : ℕ) → TablesStand h since tables.now → result ≡ former (latest_of topic.now h) }
+{
+    match tables.latest_version(topic) {
+        Some(version) => Touched::Version(version.ver),
+        None => Touched::Nothing,
+    }
+}
+
+// ---- what is given back
+
+/// Takes the rooms of the touched versions away, where no compaction would keep them.
+pub(crate) fn give_back(ledger: &Ledger, tries: &mut Tries, touched: Touched)
+    ensures { GivesBack (is_meant touched ledger.now.fates) ledger.now tries.old tries.new }
+{
+    match touched {
+        Touched::Nothing => {}
+        Touched::Version(ver) => give_back_version(ledger, tries, ver),
+        Touched::Lease(lease) => give_back_lease(ledger, tries, lease),
+    }
+}
+
+/// Takes the rooms of a version away, where no compaction would keep it.
+fn give_back_version(ledger: &Ledger, tries: &mut Tries, ver: u64)
+    ensures { GivesBack (λ v. ver == v) ledger.now tries.old tries.new }
+{
+    if is_past(ledger, ver) {
+        tries.give_back_version(ver);
+    }
+}
+
+/// Whether no compaction would keep a version: no pair of it stands open, and it isn't the latest of its
+/// topic.
+fn is_past(ledger: &Ledger, ver: u64) -> bool
+    ensures stands { (h : List Event) (since : ℕ) → LedgerStands h since ledger.now → Legal h → result ≡ is_past h ledger.now ver }
+    ensures low { result ≡ true → ver < 2 ^ 63 }
+{
+    if ver >= NUMBER_LIMIT {
+        return false;
+    }
+    if ledger.fates().open_of(ver) > 0 {
+        return false;
+    }
+    !is_latest(ledger.tables(), ver)
+}
+
+/// Takes the rooms of all versions of a lease away that no compaction would keep.
+fn give_back_lease(ledger: &Ledger, tries: &mut Tries, lease: u64)
+    ensures { GivesBack (is_meant (Lease lease) ledger.now.fates) ledger.now tries.old tries.new }
+{
+    if lease < NUMBER_LIMIT {
+        give_back_each(ledger, tries, lease);
+    }
+}
+
+fn give_back_each(ledger: &Ledger, tries: &mut Tries, lease: u64)
+    requires { lease < 2 ^ 63 }
+    ensures { GivesBack (λ v. list_any (λ e. e.0.1 == v) (filter (λ e. e.0.0 == lease) ledger.now.fates.pairs)) ledger.now tries.old tries.new }
+{
+    for (pair, _) in ledger.fates().pairs_of(lease) {
+        give_back_version(ledger, tries, pair.1);
+    }
+}

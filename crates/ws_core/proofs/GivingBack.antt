@@ -1,5 +1,5 @@
 -- Rooms that are given back: the core stands as before, and they are gone.
-use Rattle.std.proofs.Common.{◌≡◌, ℕ, ◌≤◌, ◌<◌, Bool, true, false, not, cond, ◌&&◌, ◌||◌, List, [], ◌∷◌, refl, ap, sym, ◌∙◌, subst, length, arith, inl, inr}
+use Rattle.std.proofs.Common.{◌≡◌, ℕ, suc, ◌≤◌, ◌<◌, Bool, true, false, not, cond, ◌&&◌, ◌||◌, List, [], ◌∷◌, refl, ap, sym, ◌∙◌, subst, length, arith, inl, inr}
 use Rattle.std.specs.Prelude.{◌==◌, Option, Some, None, IfSome, IsSome, filter, is_some, nat_lt}
 use Rattle.std.specs.List.{list_any}
 use Rattle.std.specs.Option.{option_map}
@@ -42,12 +42,15 @@ same_open Open k = refl
 same_open Answered k = absurd (false≢true k)
 same_open (Ended c) k = absurd (false≢true k)
 
+not_none : (n : ℕ) → (suc n == 0) ≡ false
+not_none n = grind (arith, nat_tests)
+
 some_pass : {X : Type 0} (q : X → Bool) (xs : List X) → list_any q xs ≡ true → (length (filter q xs) == 0) ≡ false
 some_pass q [] k = absurd (false≢true k)
 some_pass {X} q (x ∷ xs) k = by (q x) k (some_pass q xs)
   where
     by : (b : Bool) → (b || list_any q xs) ≡ true → (list_any q xs ≡ true → (length (filter q xs) == 0) ≡ false) → (length (cond b (x ∷ filter q xs) (filter q xs)) == 0) ≡ false
-    by true k f = refl
+    by true k f = not_none (length (filter q xs))
     by false k f = f k
 
 latest_stays : (b c d : Bool) → d ≡ true → (b && (c && not d)) ≡ false
@@ -141,17 +144,26 @@ rooms_gone e touched old mid tries goes gives are h since s l le v k p n =
 
 -- ---- one version, and those of a lease
 
-pub of_version : (h : List Event) (ver v n : ℕ) (rows : LedgerRows) (old new : TryRows) (past : Bool) → past ≡ is_past h rows ver → tries_at v n new ≡ cond past (cond (ver == v) None (tries_at v n old)) (tries_at v n old)
-    → tries_at v n new ≡ cond ((ver == v) && is_past h rows v) None (tries_at v n old)
-of_version h ver v n rows old new past is look = look ∙ ap (λ b. cond b (cond (ver == v) None (tries_at v n old)) (tries_at v n old)) is ∙ by (ver == v) refl
+pub version_goes : (h : List Event) (ver v n : ℕ) (rows : LedgerRows) (old new : TryRows) → is_past h rows ver ≡ true → tries_at v n new ≡ cond (ver == v) None (tries_at v n old) → tries_at v n new ≡ cond ((ver == v) && is_past h rows v) None (tries_at v n old)
+version_goes h ver v n rows old new past look = look ∙ by (ver == v) refl
   where
-    none_or : (b : Bool) (o : Option (List Try)) → cond b o o ≡ o
-    none_or true o = refl
-    none_or false o = refl
+    by : (b : Bool) → (ver == v) ≡ b → cond b None (tries_at v n old) ≡ cond (b && is_past h rows v) None (tries_at v n old)
+    by true q = ap (λ b. cond b None (tries_at v n old)) (sym (ap (is_past h rows) (sym (eqb-true ver v q)) ∙ past))
+    by false q = refl
 
-    by : (b : Bool) → (ver == v) ≡ b → cond (is_past h rows ver) (cond b None (tries_at v n old)) (tries_at v n old) ≡ cond (b && is_past h rows v) None (tries_at v n old)
-    by true q = ap (λ w. cond (is_past h rows w) None (tries_at v n old)) (eqb-true ver v q)
-    by false q = none_or (is_past h rows ver) (tries_at v n old)
+pub version_stays : (h : List Event) (ver v n : ℕ) (rows : LedgerRows) (old : TryRows) → is_past h rows ver ≡ false → tries_at v n old ≡ cond ((ver == v) && is_past h rows v) None (tries_at v n old)
+version_stays h ver v n rows old past = by (ver == v) refl
+  where
+    by : (b : Bool) → (ver == v) ≡ b → tries_at v n old ≡ cond (b && is_past h rows v) None (tries_at v n old)
+    by true q = ap (λ b. cond b None (tries_at v n old)) (sym (ap (is_past h rows) (sym (eqb-true ver v q)) ∙ past))
+    by false q = refl
+
+pub below_limit : (n : ℕ) (b p : Bool) → n < number_limit → (b && p) ≡ ((nat_lt n number_limit && b) && p)
+below_limit n b p k = by (nat_lt n number_limit) (grind (arith, nat_tests))
+  where
+    by : (c : Bool) → c ≡ true → (b && p) ≡ ((c && b) && p)
+    by true k = refl
+    by false k = absurd (false≢true k)
 
 pub one_back : {X : Type 0} (a b p : Bool) (now old all : Option X) → now ≡ cond (a && p) None old → cond ((a || b) && p) None old ≡ all → cond (b && p) None now ≡ all
 one_back true true true now old all k m = m

@@ -49,7 +49,15 @@ fn fetches(alloc: Global, events: &mut Vec<Event>) -> Result<(), NoMemory> {
 // owed.
 fn endings(alloc: Global, events: &mut Vec<Event>) -> Result<(), NoMemory> {
     let how = How::Done;
-    happen(events, 1_200, What::Pushed { ver: 1, lease: 1, how })?;
+    happen(
+        events,
+        1_200,
+        What::Pushed {
+            ver: 1,
+            lease: 1,
+            how,
+        },
+    )?;
     happen(events, 1_210, fetched(alloc, 2, X, 20)?)?;
     happen(events, 1_220, asked(alloc, 6, X, CD, 1_000)?)?;
     happen(events, 1_230, What::Confirmed { n: 6, sent: 1_225 })?;

@@ -1,27 +1,19 @@
 -- What follows from an answer that was made.
-use Rattle.std.proofs.Common.{◌≡◌, ◌≢◌, ℕ, ◌<◌, Bool, List, lit<, refl, sym, ap, ◌∙◌, subst, arith, Option, Result, Ok, Err, IfOk}
+use Rattle.std.proofs.Common.{◌≡◌, ℕ, ◌<◌, Bool, List, lit<, refl, sym, ap, ◌∙◌, subst, arith, Result, Ok, Err, IfOk}
 use Rattle.ws_model.specs.declared.bytes.NoMemory.{NoMemory}
-use Rattle.ws_model.specs.declared.event.Event.{Event}
-use Rattle.ws_model.specs.declared.settings.Settings.{Settings}
-use Rattle.ws_model.specs.Cause.{Rose}
 use Rattle.ws_form.specs.declared.ask.Ask.{Ask}
 use Rattle.ws_form.specs.declared.fault.AskFault.{AskFault}
 use Rattle.ws_form.specs.Answers.{Gives as Means}
 use Rattle.ws_form.specs.Form.{ask_in}
-use Rattle.ws_http.specs.Requests.{Verdict, whole}
 use Rattle.ws_port.specs.declared.fault.DeskFault.{DeskFault}
 use Rattle.ws_port.specs.declared.fault.DeskFault.TheVariants.{Disk, Full, NoMemory as Starved}
 use Rattle.ws_port.specs.declared.port.Told.{Told}
 use Rattle.ws_front.specs.declared.answer.Answer.{Answer}
-use Rattle.ws_front.specs.declared.message.Message.TheVariants.{Refused, Form}
 use Rattle.ws_front.specs.declared.refusal.Refusal.{Refusal}
 use Rattle.ws_front.specs.declared.refusal.Refusal.TheVariants.{BadRequest, TooLarge, NotFound, PostOnly, FormOnly}
-use Rattle.ws_front.specs.declared.served.Served.{Served}
-use Rattle.ws_front.specs.declared.served.Served.TheVariants as how
 use Rattle.ws_front.specs.Rules.{Ruling, waits, refused, form}
 use Rattle.ws_front.specs.Answers.{Response, Heard, nothing, wanting, request, Answers, FormAnswers, Gives, IsAnswer, no_memory, refusal_response, fault_response, desk_response}
-use Rattle.ws_front.specs.Connection.{Hears}
-use Rattle.ws_front.specs.Responding.{AskAnswers, RespondsToAsk, Responds, RefusesForm, Finishes, Sends}
+use Rattle.ws_front.specs.Responding.{AskAnswers, RespondsToAsk, Responds, RefusesForm}
 
 module _ (gateway : Bool) (PortHears : Heard → Type 0) where
   asked_by : (body : List ℕ) (ask : Ask) (result : Result Answer NoMemory) → ask_in gateway body ≡ Ok ask → (heard : Heard) (r : Response)

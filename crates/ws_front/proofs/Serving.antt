@@ -1,5 +1,5 @@
 -- A request that was read and its answer, put together.
-use Rattle.std.proofs.Common.{◌≡◌, ℕ, ◌≤◌, ◌<◌, Bool, true, false, List, [], ◌++◌, length, refl, sym, ap, ◌∙◌, subst, arith, Option, Result, Ok, Err, inl, inr}
+use Rattle.std.proofs.Common.{◌≡◌, ℕ, ◌≤◌, ◌<◌, Bool, List, ◌++◌, refl, sym, ap, ◌∙◌, subst, arith, Option, Ok, Err, inl, inr}
 use Rattle.std.specs.Io.KnownBytes.{Consumes, Appends}
 use Rattle.ws_model.specs.declared.event.Event.{Event}
 use Rattle.ws_model.specs.declared.settings.Policy.{Policy}
@@ -13,10 +13,9 @@ use Rattle.ws_front.specs.declared.read.Stop.{Stop}
 use Rattle.ws_front.specs.declared.read.Stop.TheVariants as stop
 use Rattle.ws_front.specs.declared.served.Served.{Served}
 use Rattle.ws_front.specs.declared.served.Served.TheVariants as how
-use Rattle.ws_front.specs.Moves.{AppendsSome}
 use Rattle.ws_front.specs.Rules.{Ruling}
-use Rattle.ws_front.specs.Answers.{Response, Heard, nothing, wanting, request, Answers, AnswerBytes, interim_line, response_bytes}
-use Rattle.ws_front.specs.Connection.{Hears, WasAsked, Serves, IsServed, IsAnswered, IsCutInAnswer, HasServedCause}
+use Rattle.ws_front.specs.Answers.{Response, Heard, nothing, wanting, request, Answers, response_bytes}
+use Rattle.ws_front.specs.Connection.{Hears, Serves, HasServedCause}
 use Rattle.ws_front.specs.Requesting.{RulingIs, Requests, IsMessage, HasStopCause}
 use Rattle.ws_front.specs.Responding.{Finishes, Sends, HasSendCause}
 use Rattle.ws_front.proofs.Known.{Appends-then}

@@ -13,7 +13,7 @@ use Rattle.ws_port.specs.Requests.{answer}
 use Rattle.ws_front.specs.declared.served.Served.{Served}
 use Rattle.ws_front.specs.declared.served.Served.TheVariants as how
 use Rattle.ws_front.specs.Moves.{IsPrefix, IsAll}
-use Rattle.ws_front.specs.Rules.{Says, waits, Rules, Waits}
+use Rattle.ws_front.specs.Rules.{Says, Rules, Waits}
 use Rattle.ws_front.specs.Answers.{Response, Heard, nothing, wanting, request, AnswerBytes, interim_line, response_bytes}
 
 -- ---- bytes

@@ -1,6 +1,6 @@
 -- What the request rules say of the bytes that came (RFC 9110, RFC 9112, in this hub's profile): whether there is
 -- nothing to say yet, a refusal, or a form to be read.
-use Rattle.std.specs.Prelude.{◌≡◌, ℕ, Bool, true, false, not, ◌||◌, if◌then◌else◌, ◌==◌, List, [], ◌∷◌, length, take, Option, Some, None, MatchBool, bytes_eq, codes}
+use Rattle.std.specs.Prelude.{◌≡◌, ℕ, Bool, true, false, not, ◌||◌, if◌then◌else◌, ◌==◌, List, [], ◌∷◌, take, Option, Some, None, MatchBool, bytes_eq, codes}
 use Rattle.std.specs.Str.{str_eq_ignore_ascii_case}
 use Rattle.httparse.specs.Grammar.{RequestHead, ReadsRequest, trim_ows}
 use Rattle.ws_target.specs.Requests.{path_and_query, place_of}

@@ -1,6 +1,6 @@
 // What stands at a place of a chunked body where a chunk should begin.
-ghost use Rattle.std.specs.Prelude.{◌≡◌, ◌+◌, ◌≤◌, ◌<◌, ◌^◌, drop, length};
-ghost use Rattle.ws_http.specs.Chunks.{Follows, LineIs, LineNext, SectionIs, TrailerNext, NextWithin, end_next};
+ghost use Rattle.std.specs.Prelude.{◌≡◌, ◌+◌, ◌≤◌, ◌<◌, ◌^◌, length};
+ghost use Rattle.ws_http.specs.Chunks.{LineIs, SectionIs, TrailerNext, NextWithin, end_next};
 
 use crate::head::{MAX_FIELDS, MAX_HEAD, front_of};
 use httparse::spans::{HeaderSpan, parse_headers};

@@ -1,5 +1,5 @@
 // How far the bytes of a request have been read.
-ghost use Rattle.std.specs.Prelude.{◌≡◌, ◌≤◌, ◌<◌, ◌^◌, ◌+◌, length, drop, ◌++◌, [], ◌||◌, nat_lt, List, ℕ, MatchOption, vec_len, true, false};
+ghost use Rattle.std.specs.Prelude.{◌≡◌, ◌≤◌, ◌<◌, ◌^◌, ◌+◌, length, ◌++◌, [], ◌||◌, nat_lt, List, ℕ, MatchOption, vec_len, true, false};
 ghost use Rattle.std.specs.Vec.{vec_capacity};
 ghost use Rattle.ws_http.specs.Requests.{said, said_again, headed, is_headed, Tells};
 ghost use Rattle.ws_http.specs.RequestStages.{Ready, HoldsFor, Closes, HasBegun, is_chunked, is_last, count_of, verdict_of};

@@ -1,4 +1,4 @@
-use Rattle.std.proofs.Common.{◌≡◌, ℕ, List, length, sym, ap, ◌∙◌}
+use Rattle.std.proofs.Common.{◌≡◌, ℕ, List, length, ap, ◌∙◌}
 use Rattle.ws_front.specs.Answers.{response_bytes}
 use Rattle.ws_front.proofs.FullLemmas.{full_bytes}
 use Rattle.ws_front.proofs.full.full_answer.Goals as goal

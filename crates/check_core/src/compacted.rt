@@ -1,4 +1,4 @@
-// Compactions of histories by chance.
+// Compactions of histories by chance, which are long, so that there is much that isn't kept.
 
 use crate::applied::{TIME_LIMIT, after};
 use crate::due::due_agrees;
@@ -11,7 +11,7 @@ use ws_core::Core;
 use ws_model::{Event, NoMemory};
 
 /// How many steps a history takes from one compaction to the next.
-const STEPS: usize = 13;
+const STEPS: usize = 35;
 
 /// How often a history is compacted.
 const COMPACTIONS: usize = 3;
@@ -108,12 +108,18 @@ fn first_apart(alloc: Global, from: u64, to: u64) -> Result<Option<u64>, NoMemor
 
 #[test]
 fn compactions_from_0(rt: HostRuntime) -> Result<(), Fail> {
-    assert_eq!(rt; first_apart(rt.alloc(), 0, 50)?, None);
+    assert_eq!(rt; first_apart(rt.alloc(), 0, 20)?, None);
     Ok(())
 }
 
 #[test]
-fn compactions_from_50(rt: HostRuntime) -> Result<(), Fail> {
-    assert_eq!(rt; first_apart(rt.alloc(), 50, 100)?, None);
+fn compactions_from_20(rt: HostRuntime) -> Result<(), Fail> {
+    assert_eq!(rt; first_apart(rt.alloc(), 20, 40)?, None);
+    Ok(())
+}
+
+#[test]
+fn compactions_from_40(rt: HostRuntime) -> Result<(), Fail> {
+    assert_eq!(rt; first_apart(rt.alloc(), 40, 60)?, None);
     Ok(())
 }

@@ -1,5 +1,5 @@
 -- What is gathered for a compaction is what it keeps.
-use Rattle.std.proofs.Common.{◌≡◌, ℕ, Bool, true, false, not, ◌&&◌, ◌||◌, List, [], ◌∷◌, ◌++◌, refl, ap, sym, ◌∙◌, subst}
+use Rattle.std.proofs.Common.{◌≡◌, ℕ, ◌≤◌, Bool, true, false, not, ◌&&◌, ◌||◌, List, [], ◌∷◌, ◌++◌, refl, ap, sym, ◌∙◌, subst}
 use Rattle.std.specs.Prelude.{filter, reverse, Option, Some, None}
 use Rattle.std.specs.List.{AllByRecursion}
 use Rattle.std.specs.List.Sorted.{IsPermutation}
@@ -14,7 +14,9 @@ use Rattle.ws_laws.proofs.ListLaws.{all_from, filter_same}
 use Rattle.ws_fate.specs.declared.totals.Standing.{Standing}
 use Rattle.ws_fate.specs.declared.totals.Standing.TheVariants.{Open, Answered, Ended}
 use Rattle.ws_fate.specs.Stands.{AreShown, without_expiry}
-use Rattle.ws_tries.specs.Stands.{is_any_push}
+use Rattle.ws_compaction.proofs.Dropped.{drops_lease_later, drops_version_later}
+use Rattle.ws_tries.specs.Rows.{Rows as TryRows}
+use Rattle.ws_tries.specs.Stands.{HaveRooms, is_any_push}
 use Rattle.ws_gather.specs.Gathered.{AreGathered}
 use Rattle.ws_gather.proofs.Members.{adds_up, exchanges}
 use Rattle.ws_tried.specs.Kept.{is_kept_push}
@@ -39,6 +41,11 @@ same_one (Some s) = ap (λ s. Some s) (same_standing s)
 
 pub shown : (h : List Event) (since : ℕ) (rows : LedgerRows) → LedgerStands h since rows → AreShown h since rows.fates
 shown h since rows s t v n le = s.shows t v n le ∙ same_one _
+
+-- ---- rooms at a later moment
+
+pub rooms_later : (h : List Event) (since t : ℕ) (rows : TryRows) → Legal h → since ≤ t → HaveRooms h since rows → HaveRooms h t rows
+rooms_later h since t rows l le rooms v n kept_version kept_lease there = rooms v n (drops_version_later h since t v le kept_version) (drops_lease_later h since t n l le kept_lease) there
 
 -- ---- all that is kept
 

@@ -1,5 +1,5 @@
 -- The core over an event, and over several that make and end no pair.
-use Rattle.std.proofs.Common.{◌≡◌, ℕ, suc, ◌≤◌, Bool, true, false, cond, ◌&&◌, List, [], ◌∷◌, ◌++◌, refl, ap, sym, ◌∙◌, subst, arith}
+use Rattle.std.proofs.Common.{◌≡◌, ℕ, suc, ◌+◌, ◌≤◌, ◌<◌, Bool, true, false, cond, ◌&&◌, List, [], ◌∷◌, ◌++◌, refl, ap, sym, ◌∙◌, subst, length, arith}
 use Rattle.std.specs.Prelude.{is_some, reverse, Option, Some, None}
 use Rattle.std.specs.List.{list_all}
 use Rattle.std.proofs.lemmas.Bool.{and_parts, false≢true}
@@ -23,9 +23,10 @@ use Rattle.ws_ledger.specs.Stands.{GoesOn as LedgerGoesOn}
 use Rattle.ws_ledger.proofs.NewPairs.{by_none, nothing_born}
 use Rattle.ws_ledger.proofs.Together.{legal_past}
 use Rattle.ws_core.specs.Committing.{AllGoOn}
+use Rattle.ws_core.specs.Renewed.{listed}
 use Rattle.ws_core.specs.Rows.{Rows}
 use Rattle.ws_core.specs.Stands.{GoesOn, StandsFor}
-use Rattle.ws_core.proofs.Log.{listed, log_other, log_pushed, log_quiet, quiet_other, renewals_after, renewals_pushed, renewals_quiet}
+use Rattle.ws_core.proofs.Log.{log_other, log_pushed, log_quiet, quiet_other, renewals_after, renewals_pushed, renewals_quiet}
 use Rattle.ws_core.proofs.Rooms.{only_after, pushed_tries, rooms_after, stays_absent, stays_there, tries_after}
 
 -- ---- a push
@@ -138,3 +139,11 @@ all_go_on t whats events old new quiet goes are log same_renewals same_tries h s
       only = subst (λ (rows : TryRows). (v n : ℕ) → pair_of (committed t whats h) v n ≡ None → tries_at v n rows ≡ None) (sym same_tries) b.only;
       rooms = subst (HaveRooms (committed t whats h) t) (sym same_tries) b.rooms;
     }
+
+-- there are as many events
+pub as_many : (t : ℕ) (whats : List What) (h : List Event) → length (numbered t whats h) ≡ length whats
+as_many t [] h = refl
+as_many t (w ∷ ws) h = ap (λ k. suc k) (as_many t ws (record { serial = suc (serial h); t = t; what = w } ∷ h))
+
+pub room_is_there : (capacity log events whats : ℕ) → capacity < log + events → log + whats ≤ capacity → events ≡ whats → ⊥
+room_is_there capacity log events whats full room same = omega arith

@@ -15,6 +15,7 @@ use Rattle.ws_tries.specs.Stands.{is_any_push}
 use Rattle.ws_fate.specs.Stands.{is_quiet}
 use Rattle.ws_kept.specs.Stands.{light, light_event, log_of, renewals, replaces, with_old}
 use Rattle.ws_ledger.specs.Births.{renewal_of}
+use Rattle.ws_core.specs.Renewed.{listed}
 
 -- ---- the log
 
@@ -36,11 +37,6 @@ log_other e h other =
     others = filter (λ e. not (is_any_push e.what)) h
 
 -- ---- the renewals
-
--- the one, or none
-abbrev pub listed : {X : Type 0} → Option X → List X
-listed None = []
-listed (Some x) = x ∷ []
 
 replaced : (live ls : List Lease) → replaces live ls ≡ listed (renewal_of live ls)
 replaced live [] = refl

@@ -3,7 +3,7 @@ use Rattle.std.proofs.Common.{◌≡◌, ℕ, ◌≤◌, ◌<◌, Bool, true, fa
 use Rattle.std.specs.Prelude.{find, is_some, Option, Some, None, IfSome, IsSomeAnd, ◌==◌}
 use Rattle.std.specs.List.{AllByRecursion, list_any}
 use Rattle.std.specs.Option.{option_map}
-use Rattle.std.proofs.lemmas.Bool.{and_parts, eqb-true, false≢true}
+use Rattle.std.proofs.lemmas.Bool.{and_parts, eqb-true, false≢true, or_right}
 use Rattle.std.proofs.lemmas.List.{append-nil}
 use Rattle.ws_model.specs.declared.event.Event.{Event}
 use Rattle.ws_model.specs.declared.event.How.{How}
@@ -21,9 +21,10 @@ use Rattle.ws_laws.proofs.Ended.{IsToldPair, both_true, pairs_told}
 use Rattle.ws_laws.proofs.Follow.{some_found}
 use Rattle.ws_laws.proofs.Known.{IsKnown, allowed, pairs_known}
 use Rattle.ws_laws.proofs.ListLaws.{all_filter_with, all_find, any_then}
-use Rattle.ws_laws.proofs.Paired.{owed_lives}
-use Rattle.ws_compaction.specs.Least.{IsKeptLease}
+use Rattle.ws_laws.proofs.Paired.{owed_lives, pairs_only}
+use Rattle.ws_compaction.specs.Least.{IsLive}
 use Rattle.ws_compaction.proofs.Dropped.{either_more, drops_lease, drops_lease_later, drops_version, drops_version_later}
+use Rattle.ws_compaction.proofs.Least.{keeps_least}
 use Rattle.ws_tries.specs.declared.room.Try.{Try}
 use Rattle.ws_tries.specs.Rows.{Rows as TryRows, is_here, is_listed, tries_at}
 use Rattle.ws_tries.specs.Stands.{Adds, HaveRooms, StandsFor as TriesStand, is_any_push, tried, tries_of}

@@ -1,3 +1,4 @@
+pub mod Renewed
 pub mod Rows
 pub mod Stands
 pub mod Follows

@@ -1,8 +1,10 @@
 // What happened, applied to the core.
-ghost use Rattle.std.specs.Prelude.{◌≡◌, OnOk, OnErr, false};
+ghost use Rattle.std.specs.Prelude.{◌≡◌, ◌<◌, ◌++◌, OnOk, OnErr, false};
+ghost use Rattle.std.specs.Vec.{vec_capacity, vec_len};
 ghost use Rattle.ws_model.specs.declared.event.What.TheVariants.{Pushed};
 ghost use Rattle.ws_tries.specs.Stands.{is_any_push};
 ghost use Rattle.ws_core.specs.Follows.{HasHistory};
+ghost use Rattle.ws_core.specs.Renewed.{listed};
 ghost use Rattle.ws_core.specs.Stands.{CanFollow, GoesOn};
 
 use crate::Core;
@@ -62,9 +64,17 @@ impl Core {
         self.renewals.reserve(1)?;
         apply_with_rooms(&mut self.ledger, &mut self.tries, event, &births)?;
         self.log.push_reserved(entry);
-        if let Some(renewal) = renewal {
-            self.renewals.push_reserved(renewal);
-        }
+        add_reserved(&mut self.renewals, renewal);
         Ok(())
+    }
+}
+
+/// Adds a renewal behind the others, where there is one. It takes no memory.
+fn add_reserved(renewals: &mut Vec<(u64, u64)>, renewal: Option<(u64, u64)>)
+    requires { vec_len renewals.old < vec_capacity renewals.old }
+    ensures { renewals.new.items ≡ renewals.old.items ++ listed renewal }
+{
+    if let Some(renewal) = renewal {
+        renewals.push_reserved(renewal);
     }
 }

@@ -8,7 +8,6 @@ mod applying;
 mod asking;
 mod births;
 mod committing;
-
 mod keeping;
 mod looking;
 mod settling;

@@ -1,3 +1,4 @@
+pub mod Counting
 pub mod Keyed
 pub mod Passing
 pub mod Stepping

@@ -9,7 +9,6 @@ use Rattle.std.specs.declared.cmp.Ordering.TheVariants.{Less}
 use Rattle.std.proofs.lemmas.Bool.Decides.{nat_tests}
 use Rattle.std.proofs.lemmas.List.Elements.{recursion_from_All}
 use Rattle.std.proofs.lemmas.Map.Views.{All-after_first}
-use Rattle.ws_fate.specs.declared.totals.Standing.{Standing}
 use Rattle.ws_fate.specs.Rows.{Rows, is_here, pair_order, standing_at}
 
 -- the first key is below the second

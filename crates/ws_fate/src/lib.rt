@@ -1,6 +1,7 @@
 //! What became of each pair of a version and a lease, and how many ended so.
 #![tactic(auto)]
 
+mod counts;
 pub mod laws;
 mod table;
 #[cfg(test)]

@@ -1,14 +1,15 @@
 // The table of pairs with what became of them.
-ghost use Rattle.std.specs.Prelude.{◌≡◌, ◌∷◌, ◌≤◌, ◌<◌, ◌^◌, ◌==◌, [], ℕ, None, Some, cond, filter, length, OnOk, OnErr};
+ghost use Rattle.std.specs.Prelude.{◌≡◌, ◌∷◌, ◌≤◌, ◌<◌, ◌^◌, ◌==◌, ◌&&◌, [], ℕ, None, Some, cond, filter, length, OnOk, OnErr};
 ghost use Rattle.std.specs.List.Sorted.{IsStrictlySortedBy};
 ghost use Rattle.std.specs.Map.{keys_of};
 ghost use Rattle.ws_model.specs.declared.event.Event.{Event};
 ghost use Rattle.ws_model.specs.declared.event.What.TheVariants.{Tally as TallyOf};
 ghost use Rattle.ws_fate.specs.declared.totals.Standing.TheVariants.{Open};
-ghost use Rattle.ws_fate.specs.Rows.{is_here, pair_order, standing_at};
+ghost use Rattle.ws_fate.specs.Rows.{is_here, is_open, pair_order, standing_at};
 ghost use Rattle.ws_fate.specs.Stands.{StandsFor};
 ghost use Rattle.ws_fate.specs.Totals.{none, of_tally, with_one};
 
+use crate::counts::Counts;
 use crate::{Standing, Totals};
 use std::alloc::Global;
 use std::collections::BTreeMap;
@@ -17,19 +18,24 @@ use std::marker::Model;
 use ws_model::{NoMemory, Tally};
 
 /// The pairs of a version and a lease with what became of them, and how many ended in each way, those
-/// included that a compaction forgot. Contracts see the pairs as a list by lease and version.
+/// included that a compaction forgot. Contracts see the pairs as a list by lease and version. How many
+/// of each version stand open is counted beside them.
 #[derive(Drop)]
 pub struct Fates {
     by_pair: BTreeMap<(u64, u64), Standing>,
+    open_counts: Counts,
     totals: Totals,
 }
 
 impl Model for Fates {
     ghost use Rattle.ws_fate.specs.Rows.{Rows};
+    ghost use Rattle.ws_fate.specs.Counts.{AreCounted};
 
     ghost Value = { Rows };
 
     ghost view = { λ s. record { pairs = s.by_pair.entries; totals = s.totals } };
+
+    ghost invariant = { λ s. AreCounted s.by_pair.entries s.open_counts };
 }
 
 impl Fates {
@@ -40,6 +46,7 @@ impl Fates {
     {
         Fates {
             by_pair: BTreeMap::new(alloc),
+            open_counts: Counts::empty(alloc),
             totals: Totals::none(),
         }
     }
@@ -51,6 +58,7 @@ impl Fates {
     {
         Fates {
             by_pair: BTreeMap::new(alloc),
+            open_counts: Counts::empty(alloc),
             totals: Totals::of_tally(tally),
         }
     }
@@ -88,6 +96,13 @@ impl Fates {
         self.by_pair.range((lease, 0)..(lease + 1, 0))
     }
 
+    /// How many pairs of a version stand open. It takes no memory.
+    pub fn open_of(&self, ver: u64) -> u64
+        ensures { result ≡ length (filter (λ e. (e.0.1 == ver) && is_open e.1) self.now.pairs) }
+    {
+        self.open_counts.of(ver)
+    }
+
     /// How many pairs ended in each way. It takes no memory.
     pub fn totals(&self) -> Totals
         ensures { result ≡ self.now.totals }
@@ -102,8 +117,16 @@ impl Fates {
         ensures totals { self.new.totals ≡ self.old.totals }
         ensures err { OnErr result (self.new ≡ self.old) }
     {
-        self.by_pair.insert((lease, ver), Standing::Open)?;
-        Ok(())
+        // That a version has few open pairs is known from how many pairs there are.
+        let _ = self.by_pair.len();
+        self.open_counts.add(ver)?;
+        match self.by_pair.insert((lease, ver), Standing::Open) {
+            Ok(_) => Ok(()),
+            Err(fault) => {
+                self.open_counts.take(ver);
+                Err(fault.into())
+            }
+        }
     }
 
     /// Takes an open pair out, as if it hadn't been born. It takes no memory.
@@ -112,7 +135,10 @@ impl Fates {
         ensures look { (v n : ℕ) → standing_at v n self.new ≡ cond (is_here ver lease v n) None (standing_at v n self.old) }
         ensures totals { self.new.totals ≡ self.old.totals }
     {
-        let _ = self.by_pair.remove(&(lease, ver));
+        match self.by_pair.remove(&(lease, ver)) {
+            Some(_) => self.open_counts.take(ver),
+            None => unreachable!(),
+        }
     }
 
     /// Says what became of an open pair, and counts it. It takes no memory.
@@ -122,7 +148,10 @@ impl Fates {
         ensures totals { self.new.totals ≡ with_one how self.old.totals }
     {
         match self.by_pair.insert((lease, ver), how) {
-            Ok(_) => self.totals.add(how),
+            Ok(_) => {
+                self.open_counts.end(ver, how);
+                self.totals.add(how)
+            }
             Err(_) => unreachable!(),
         }
     }

@@ -10,9 +10,15 @@ fn pairs_and_their_ends(rt: HostRuntime) -> Result<(), Fail> {
     fates.born(1, 2)?;
     fates.born(1, 3)?;
     fates.born(2, 3)?;
+    assert_eq!(rt;
+        (fates.open_of(1), fates.open_of(2), fates.open_of(3)),
+        (2, 1, 0)
+    );
     fates.end(1, 2, Standing::Answered);
+    assert_eq!(rt; fates.open_of(1), 1);
     fates.end(1, 3, Standing::Ended(Cause::Replaced));
     fates.unborn(2, 3);
+    assert_eq!(rt; (fates.open_of(1), fates.open_of(2)), (0, 0));
     assert_eq!(rt; fates.get(1, 2), Some(Standing::Answered));
     assert_eq!(rt; fates.get(1, 3), Some(Standing::Ended(Cause::Replaced)));
     assert_eq!(rt; fates.get(2, 3), None);

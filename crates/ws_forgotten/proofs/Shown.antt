@@ -1,10 +1,9 @@
 -- The pairs of a history that a compaction forgets, counted in the table that shows them.
-use Rattle.std.proofs.Common.{◌≡◌, ℕ, ◌≤◌, Bool, true, false, cond, not, ◌&&◌, List, [], ◌∷◌, refl, ap, sym, ◌∙◌, length, Option, Some, None, arith}
+use Rattle.std.proofs.Common.{◌≡◌, ℕ, ◌≤◌, Bool, true, false, cond, not, ◌&&◌, List, [], ◌∷◌, refl, ap, sym, ◌∙◌, length, Some, arith}
 use Rattle.std.specs.Prelude.{find, filter, map, ◌==◌}
 use Rattle.std.specs.List.{AllByRecursion, IsDistinct, list_any}
 use Rattle.std.specs.List.Sorted.{IsStrictlySortedBy}
 use Rattle.std.specs.Map.{keys_of, lookup}
-use Rattle.std.specs.BTreeMap.{is_at}
 use Rattle.std.specs.Option.{option_map}
 use Rattle.std.proofs.lemmas.Bool.{false≢true, or_right}
 use Rattle.std.proofs.lemmas.Bool.Decides.{nat_tests}
@@ -15,12 +14,12 @@ use Rattle.ws_model.specs.declared.fate.Cause.{Cause}
 use Rattle.ws_model.specs.declared.fate.Cause.TheVariants.{Expired, Unsubscribed, Replaced, Gone, Spent, Revoked}
 use Rattle.ws_model.specs.declared.fate.Fate.{Fate}
 use Rattle.ws_model.specs.declared.fate.Fate.TheVariants.{Owed, Answered as IsAnswered, Ended as HasEnded}
-use Rattle.ws_model.specs.Account.{is_answered, is_ended, same_cause}
+use Rattle.ws_model.specs.Account.{is_answered, is_ended}
 use Rattle.ws_model.specs.Fate.{Pair, fate, is_owed}
-use Rattle.ws_model.specs.Keep.{is_kept_pair, kept_leases, member}
+use Rattle.ws_model.specs.Keep.{is_kept_pair}
 use Rattle.ws_model.specs.Legal.{Legal}
 use Rattle.ws_model.specs.Pairs.{owed, pairs}
-use Rattle.ws_model.specs.Verdict.{fate_of, is_kept_version}
+use Rattle.ws_model.specs.Verdict.{is_kept_version}
 use Rattle.ws_model.specs.Versions.{latest}
 use Rattle.ws_laws.proofs.Known.{itself}
 use Rattle.ws_laws.proofs.ListLaws.{all_filter_with, all_weaker, filter-map, filter_same}
@@ -28,7 +27,7 @@ use Rattle.ws_laws.proofs.Paired.{AreUnlike, pairs_apart, same_numbers}
 use Rattle.ws_compaction.proofs.Choice.{owed_numbers}
 use Rattle.ws_compaction.proofs.Fetches.{found_in}
 use Rattle.ws_fate.specs.declared.totals.Standing.{Standing}
-use Rattle.ws_fate.specs.declared.totals.Standing.TheVariants.{Open, Answered, Ended}
+use Rattle.ws_fate.specs.declared.totals.Standing.TheVariants.{Answered, Ended}
 use Rattle.ws_fate.specs.Rows.{Rows, is_here, pair_order}
 use Rattle.ws_fate.specs.Stands.{AreShown, without_expiry}
 use Rattle.ws_fate.specs.Totals.{standing}

@@ -7,7 +7,7 @@ use Rattle.ws_model.specs.declared.event.Event.{Event}
 use Rattle.ws_model.specs.declared.event.Tally.{Tally as TallyFields}
 use Rattle.ws_model.specs.declared.fate.Cause.TheVariants.{Expired, Unsubscribed, Replaced, Gone, Spent, Revoked}
 use Rattle.ws_model.specs.declared.fate.Fate.{Fate}
-use Rattle.ws_model.specs.Account.{is_answered, is_ended, most, tallied, tallies}
+use Rattle.ws_model.specs.Account.{is_answered, is_ended, most, tallied}
 use Rattle.ws_model.specs.Keep.{forgotten}
 use Rattle.ws_model.specs.Legal.{Legal}
 use Rattle.ws_laws.specs.Steps.{more}

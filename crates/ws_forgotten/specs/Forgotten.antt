@@ -32,7 +32,7 @@ abbrev pub end_of : Standing → Standing
 end_of Open = Ended Expired
 end_of s = s
 
--- it became just so of a pair
+-- both are the same end
 abbrev pub is_so : Standing → Standing → Bool
 is_so Answered Answered = true
 is_so (Ended c) (Ended d) = same_cause c d

@@ -1,10 +1,11 @@
 // What compactions of a few pairs put first, worked out by hand.
 use crate::tally;
+use std::alloc::Global;
 use std::test::Fail;
 use ws_core_tables::Tables;
 use ws_fate::{Fates, Standing};
 use ws_kept::Kept;
-use ws_model::{Cause, Event, Tally, What};
+use ws_model::{Cause, Event, NoMemory, Tally, What};
 
 const EARLIER: Tally = Tally {
     now: 1000,
@@ -50,30 +51,47 @@ const BOTH: Tally = Tally {
     revoked: 6,
 };
 
-#[test]
-fn a_few_pairs(rt: HostRuntime) -> Result<(), Fail> {
+fn begun(alloc: Global) -> Result<Tables, NoMemory> {
     let first = Event {
         serial: 0,
         t: 0,
         what: What::Tally(EARLIER),
     };
-    let mut tables = Tables::empty(rt.alloc());
+    let mut tables = Tables::empty(alloc);
     tables.apply(&first)?;
-    let mut fates = Fates::empty(rt.alloc());
+    Ok(tables)
+}
+
+fn four_pairs(alloc: Global) -> Result<Fates, NoMemory> {
+    let mut fates = Fates::empty(alloc);
     fates.born(4, 5)?;
+    fates.end(4, 5, Standing::Answered);
     fates.born(4, 6)?;
     fates.born(5, 5)?;
-    fates.born(5, 6)?;
-    fates.end(4, 5, Standing::Answered);
     fates.end(5, 5, Standing::Ended(Cause::Gone));
+    fates.born(5, 6)?;
     fates.end(5, 6, Standing::Ended(Cause::Spent));
+    Ok(fates)
+}
+
+#[test]
+fn a_few_pairs(rt: HostRuntime) -> Result<(), Fail> {
+    let tables = begun(rt.alloc())?;
+    let fates = four_pairs(rt.alloc())?;
     let kept = Kept::nothing(rt.alloc());
-    let second = Event {
-        serial: 10,
-        t: 1000,
-        what: What::Unheard { n: 4 },
-    };
-    let log = [first, second];
+    let events = [
+        Event {
+            serial: 0,
+            t: 0,
+            what: What::Tally(EARLIER),
+        },
+        Event {
+            serial: 10,
+            t: 1000,
+            what: What::Unheard { n: 4 },
+        },
+    ];
+    let log = &events[..];
     for (from, wanted) in [(0, BOTH), (1, NEW), (2, NEW)] {
         let told = tally(&tables, &fates, &kept, &log[from..], 2000);
         assert!(rt; told.serial == 0 && told.t == 0 && told.what == What::Tally(wanted));

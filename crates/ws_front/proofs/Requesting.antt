@@ -1,27 +1,27 @@
 -- The exits of reading a request.
-use Rattle.std.proofs.Common.{◌≡◌, ◌≢◌, ℕ, ◌+◌, ◌≤◌, ◌<◌, Bool, true, false, List, [], ◌∷◌, ◌++◌, length, take, refl, sym, ap, ◌∙◌, subst, append_assoc, append-nil, length-append, arith, Option, Some, None, Result, Ok, Err, IsErrAnd}
+use Rattle.std.proofs.Common.{◌≡◌, ◌≢◌, ℕ, ◌≤◌, ◌<◌, Bool, true, false, List, [], ◌++◌, length, take, refl, sym, ap, ◌∙◌, subst, append_assoc, length-append, arith, Option, Some, None, Result, Ok, Err, IsErrAnd}
 use Rattle.std.specs.Prelude.{if◌then◌else◌, MatchBool, IsErrOf}
-use Rattle.ws_model.specs.Cause.{Rose}
+use Rattle.std.proofs.lemmas.Bool.{false≢true}
 use Rattle.std.specs.Io.KnownBytes.{Consumes, Appends, IsAtEnd}
-use Rattle.std.proofs.lemmas.List.{take-take}
 use Rattle.httparse.specs.Grammar.{RequestHead, ReadsRequest}
 use Rattle.ws_http.specs.declared.fed.Fed.{Fed}
-use Rattle.ws_http.specs.declared.fed.Fed.TheVariants.{More, Head}
-use Rattle.ws_http.specs.Requests.{Verdict, unfinished, headed, whole, bad, is_final, is_headed, Tells, IsRequest}
+use Rattle.ws_http.specs.declared.fed.Fed.TheVariants.{Head}
+use Rattle.ws_http.specs.Requests.{Verdict, unfinished, headed, is_headed, Tells, IsRequest}
 use Rattle.ws_http.specs.RequestStages.{Reading, verdict, fresh}
 use Rattle.ws_front.specs.declared.message.Message.{Message}
-use Rattle.ws_front.specs.declared.message.Message.TheVariants.{Refused, Form}
+use Rattle.ws_front.specs.declared.message.Message.TheVariants.{Refused}
 use Rattle.ws_front.specs.declared.refusal.Refusal.{Refusal}
 use Rattle.ws_front.specs.declared.read.Stop.{Stop}
 use Rattle.ws_front.specs.declared.read.Stop.TheVariants as stop
-use Rattle.ws_front.specs.Moves.{IsAll, AppendsSome}
-use Rattle.ws_front.specs.Rules.{Ruling, waits, refused, Says, Rules, Waits, HeadSays, by_head, by_verdict, head_refusal, awaits}
+use Rattle.ws_front.specs.Moves.{IsAll}
+use Rattle.ws_front.specs.Rules.{refused, Says, Rules, Waits, HeadSays, by_head, by_verdict, head_refusal, awaits}
 use Rattle.ws_front.specs.Answers.{nothing, interim_line}
-use Rattle.ws_front.specs.Reading.{IsOpen, ReadsTo, ReadsOver, ReadsOn, HasReadCause}
-use Rattle.ws_front.specs.Connection.{AtOnce, IsUnanswered, IsCutInLine}
-use Rattle.ws_front.specs.Requesting.{RulingIs, IsMessage, IsRead, Requests, GivesLine, HasSaid, Passes, HasSinkCause, HasStopCause}
-use Rattle.ws_front.proofs.Known.{Consumes-then, Consumes-all, Appends-none}
-use Rattle.ws_front.proofs.Verdicts.{reads_more, head_of, sound_stays, nothing_said}
+use Rattle.ws_front.specs.Reading.{IsOpen, ReadsTo, ReadsOn, HasReadCause}
+use Rattle.ws_front.specs.Connection.{AtOnce, IsUnanswered}
+use Rattle.ws_front.specs.Requesting.{RulingIs, Requests, GivesLine, HasSaid, Passes, HasSinkCause, HasStopCause}
+use Rattle.ws_front.proofs.Known.{Consumes-then, Appends-none}
+use Rattle.ws_http.proofs.ReaderLemmas.{fresh_stands}
+use Rattle.ws_front.proofs.Verdicts.{reads_more, sound_stays}
 
 -- ---- what is said
 
@@ -52,18 +52,13 @@ rules_headed hub bytes v h rest says is e reads says_is = record {
 unfinished_fresh : (old : Reading) → old ≡ fresh 16384 → verdict old ≡ unfinished
 unfinished_fresh old e = ap verdict e
 
-bytes_fresh : (old : Reading) (t : List ℕ) → old ≡ fresh 16384 → old.bytes ++ t ≡ t
-bytes_fresh old t e = ap (λ (r : Reading). r.bytes ++ t) e
-
-waits_first : (hub bytes : List ℕ) (old : Reading) → old ≡ fresh 16384 → IsRequest 16384 (old.bytes ++ bytes) (verdict old) → Waits hub bytes false
+waits_first : (hub bytes : List ℕ) (old : Reading) → old ≡ fresh 16384 → IsRequest 16384 bytes (verdict old) → Waits hub bytes false
 waits_first hub bytes old e is =
-    rules_unheaded hub bytes unfinished
-    (subst (λ (t : List ℕ). IsRequest 16384 t unfinished) (bytes_fresh old bytes e)
-    (subst (λ (v : Verdict). IsRequest 16384 (old.bytes ++ bytes) v) (unfinished_fresh old e) is))
-    refl
+    rules_unheaded hub bytes unfinished (subst (λ (v : Verdict). IsRequest 16384 bytes v) (unfinished_fresh old e) is) refl
 
-pub fresh_open : (old : Reading) → old ≡ fresh 16384 → IsOpen old
-fresh_open old e = subst IsOpen (sym e) (record { room = refl; going_on = refl; judged = nothing_said })
+pub fresh_open : (old : Reading) → old ≡ fresh 16384 → IsOpen old []
+fresh_open old e =
+    subst (λ (r : Reading). IsOpen r []) (sym e) (record { room = refl; going_on = refl; stands = fresh_stands 16384 })
 
 all_nothing : (a : Option (List ℕ)) → IsAtEnd a → IsAll a []
 all_nothing None e = tt
@@ -74,11 +69,11 @@ least_first false n e h = omega arith
 least_first true n e h = absurd (cc)
 
 module _ (hub : List ℕ) (old new : Reading) (left left' written written' : Option (List ℕ)) (fresh_is : old ≡ fresh 16384) (unwritten : written' ≡ written) where
-  unanswered : (bytes : List ℕ) → IsRequest 16384 (old.bytes ++ bytes) (verdict old) → IsUnanswered hub bytes [] nothing
+  unanswered : (bytes : List ℕ) → IsRequest 16384 bytes (verdict old) → IsUnanswered hub bytes [] nothing
   unanswered bytes is = record { interim = false; waits = waits_first hub bytes old fresh_is is; line = refl; unheard = refl }
 
   -- the source ended, or failed, before a head was whole
-  pub stops_first : (s : Stop) (v : Verdict) → ReadsOn old new left left' (Err s) → Requests hub left left' written written' v (Err s)
+  pub stops_first : (s : Stop) (v : Verdict) → ReadsOn [] old new left left' (Err s) → Requests hub left left' written written' v (Err s)
   stops_first stop.Empty v r =
       record { bytes = []; out = []; read = r.0; wrote = Appends-none written written' unwritten; is = (refl, refl, all_nothing left r.1) }
   stops_first stop.Cut v r = record {
@@ -101,10 +96,7 @@ module _ (hub : List ℕ) (old new : Reading) (left left' written written' : Opt
   }
   stops_first stop.WriteFault v r = absurd r
 
-  module _ (fed : Fed) (r : ReadsTo old new left left' fed) where
-    judged_first : IsRequest 16384 (r.before ++ r.piece) (verdict new)
-    judged_first = subst (λ (t : List ℕ). IsRequest 16384 t (verdict new)) (bytes_fresh old (r.before ++ r.piece) fresh_is) r.judged
-
+  module _ (fed : Fed) (r : ReadsTo [] old new left left' fed) where
     at_once_first : AtOnce hub (r.before ++ r.piece) false
     at_once_first = record {
       before = r.before;
@@ -125,7 +117,7 @@ module _ (hub : List ℕ) (old new : Reading) (left left' written written' : Opt
       wrote = Appends-none written written' unwritten;
       is = record {
         says = record { interim = false; ruling = by_verdict (verdict new) };
-        rules = rules_unheaded hub (r.before ++ r.piece) (verdict new) judged_first e;
+        rules = rules_unheaded hub (r.before ++ r.piece) (verdict new) r.judged e;
         line = refl;
         message_is = is;
         interim = false;
@@ -133,19 +125,12 @@ module _ (hub : List ℕ) (old new : Reading) (left left' written written' : Opt
       };
     }
 
-    front_kept : take 16384 new.bytes ≡ take 16384 (r.before ++ r.piece)
-    front_kept =
-        ap (take 16384) (r.kept ∙ ap (take 16384) (bytes_fresh old (r.before ++ r.piece) fresh_is))
-        ∙ take-take 16384 16384 (r.before ++ r.piece) (omega arith)
+    -- a head stands in what the reader kept, and in what was read
+    abbrev pub head_first : is_headed (verdict new) ≡ true → (h : RequestHead) × (rest : List ℕ) × ReadsRequest (take 16384 new.bytes) h rest
+    head_first e = let x = r.stands.head e in (x.head, x.kept_rest, x.kept)
 
-    -- a head stands in what the reader kept
-    pub head_first : is_headed (verdict new) ≡ true → (h : RequestHead) × (rest : List ℕ) × ReadsRequest (take 16384 new.bytes) h rest
-    head_first e =
-        let x = head_of (r.before ++ r.piece) (verdict new) judged_first e in
-        (x.0, x.1, subst (λ (t : List ℕ). ReadsRequest t x.0 x.1) (sym front_kept) x.2)
-
-    reads_first : (h : RequestHead) (rest : List ℕ) → ReadsRequest (take 16384 new.bytes) h rest → ReadsRequest (take 16384 (r.before ++ r.piece)) h rest
-    reads_first h rest x = subst (λ (t : List ℕ). ReadsRequest t h rest) front_kept x
+    reads_first : (e : is_headed (verdict new) ≡ true) → ReadsRequest (take 16384 (r.before ++ r.piece)) (r.stands.head e).head (r.stands.head e).rest
+    reads_first e = (r.stands.head e).reads
 
     -- its head is refused
     pub head_refused : (refusal : Refusal) → is_headed (verdict new) ≡ true
@@ -162,7 +147,7 @@ module _ (hub : List ℕ) (old new : Reading) (left left' written written' : Opt
           is = record {
             says = says;
             rules =
-                rules_headed hub (r.before ++ r.piece) (verdict new) x.0 x.1 says judged_first e (reads_first x.0 x.1 x.2)
+                rules_headed hub (r.before ++ r.piece) (verdict new) x.0 (r.stands.head e).rest says r.judged e (reads_first e)
                 (ap (λ (o : Option Refusal). by_head o (awaits x.0) (verdict new)) (why x.0 x.1 x.2));
             line = refl;
             message_is = refl;
@@ -171,8 +156,13 @@ module _ (hub : List ℕ) (old new : Reading) (left left' written written' : Opt
           };
         }
 
+    pub unheaded_said : is_headed (verdict new) ≡ false → fed ≢ Head
+    unheaded_said unheaded e =
+        let t : verdict new ≡ headed = subst (λ (f : Fed). Tells f (verdict new)) e r.tells in
+        false≢true (sym unheaded ∙ ap is_headed t)
+
     pub said_first : HasSaid new fed
-    said_first = record { going_on = λ g. (r.going_on g).0; tells = r.tells; says = r.says }
+    said_first = record { going_on = λ g. (r.before ++ r.piece, r.going_on g); tells = r.tells; says = r.says }
 
     -- its head isn't refused
     module _ (e : is_headed (verdict new) ≡ true)
@@ -182,13 +172,13 @@ module _ (hub : List ℕ) (old new : Reading) (left left' written written' : Opt
           let x = head_first e in
           record {
             head = x.0;
-            rest = x.1;
-            reads = reads_first x.0 x.1 x.2;
+            rest = (r.stands.head e).rest;
+            reads = reads_first e;
             unrefused = sym (why x.0 x.1 x.2);
             due_is = refl;
-            judged = judged_first;
+            judged = r.judged;
             headed = e;
-            kept = λ g. (r.going_on g).1 ∙ bytes_fresh old (r.before ++ r.piece) fresh_is;
+            going_on = r.going_on;
             at_once = at_once_first;
           }
 
@@ -206,7 +196,7 @@ module _ (hub : List ℕ) (old new : Reading) (left left' written written' : Opt
             is = record {
               says = says;
               rules =
-                  rules_headed hub (r.before ++ r.piece) (verdict new) x.0 x.1 says judged_first e (reads_first x.0 x.1 x.2)
+                  rules_headed hub (r.before ++ r.piece) (verdict new) x.0 (r.stands.head e).rest says r.judged e (reads_first e)
                   (ap (λ (o : Option Refusal). by_head o (awaits x.0) (verdict new)) (why x.0 x.1 x.2));
               due = g.0;
               part = g.1.2;
@@ -262,24 +252,17 @@ module _ (hub bytes : List ℕ) (due : Bool) (left middle written written' : Opt
 
   -- else its body is read on
   module _ (is_open : verdict old ≡ headed) (new : Reading) (left' : Option (List ℕ)) where
-    kept_bytes : old.bytes ≡ bytes
-    kept_bytes = p.kept (ap is_final is_open)
-
     judged_old : IsRequest 16384 bytes headed
     judged_old = subst (λ (v : Verdict). IsRequest 16384 bytes v) is_open p.judged
 
-    waits_with : (more : List ℕ) → IsRequest 16384 (old.bytes ++ more) (verdict old) → Waits hub (bytes ++ more) due
-    waits_with more is =
-        rules_with more headed
-        (subst (λ (t : List ℕ). IsRequest 16384 (t ++ more) headed) kept_bytes
-        (subst (λ (v : Verdict). IsRequest 16384 (old.bytes ++ more) v) is_open is))
-        refl
+    waits_with : (more : List ℕ) → IsRequest 16384 (bytes ++ more) (verdict old) → Waits hub (bytes ++ more) due
+    waits_with more is = rules_with more headed (subst (λ (v : Verdict). IsRequest 16384 (bytes ++ more) v) is_open is) refl
 
-    unanswered_with : (more : List ℕ) → IsRequest 16384 (old.bytes ++ more) (verdict old) → IsUnanswered hub (bytes ++ more) (interim_line due) nothing
+    unanswered_with : (more : List ℕ) → IsRequest 16384 (bytes ++ more) (verdict old) → IsUnanswered hub (bytes ++ more) (interim_line due) nothing
     unanswered_with more is = record { interim = due; waits = waits_with more is; line = refl; unheard = refl }
 
     -- the source ended, or failed, inside the body
-    pub stops_in_body : (s : Stop) (v : Verdict) → ReadsOn old new middle left' (Err s) → Requests hub left left' written written' v (Err s)
+    pub stops_in_body : (s : Stop) (v : Verdict) → ReadsOn bytes old new middle left' (Err s) → Requests hub left left' written written' v (Err s)
     stops_in_body stop.Empty v r = let e : true ≡ false = sym (ap is_headed is_open) ∙ r.2 in absurd (cc)
     stops_in_body stop.Cut v r = record {
       bytes = bytes ++ r.0.before;
@@ -302,11 +285,10 @@ module _ (hub bytes : List ℕ) (due : Bool) (left middle written written' : Opt
     stops_in_body stop.WriteFault v r = absurd r
 
     -- the message is whole, or refused
-    pub done_with_body : (fed : Fed) (m : Message) → ReadsTo old new middle left' fed → RulingIs m (verdict new) (by_verdict (verdict new))
+    pub done_with_body : (fed : Fed) (m : Message) → ReadsTo bytes old new middle left' fed → RulingIs m (verdict new) (by_verdict (verdict new))
         → Requests hub left left' written written' (verdict new) (Ok m)
     done_with_body fed m r is =
-        let judged : IsRequest 16384 (bytes ++ (r.before ++ r.piece)) (verdict new) =
-        subst (λ (t : List ℕ). IsRequest 16384 (t ++ (r.before ++ r.piece)) (verdict new)) kept_bytes r.judged in
+        let judged : IsRequest 16384 (bytes ++ (r.before ++ r.piece)) (verdict new) = r.judged in
         record {
           bytes = bytes ++ (r.before ++ r.piece);
           out = interim_line due;
@@ -356,13 +338,24 @@ line_cause reads reads' writes writes' due w w' s (Err x) h g later cause =
       write = λ k. cause.failed (ap Err (is_write due w w' s g));
     }
 
-pub unwritten : (old new : Reading) (left left' : Option (List ℕ)) (s : Stop) (r : Result Message Stop) → IsErrAnd r (λ (x : Stop). x ≡ s)
-    → ReadsOn old new left left' (Err s) → IsErrOf r stop.WriteFault → ⊥
-unwritten old new left left' s (Ok m) h q k = absurd h
-unwritten old new left left' stop.WriteFault (Err x) h q k = q
-unwritten old new left left' stop.Empty (Err x) h q k = absurd (cc)
-unwritten old new left left' stop.Cut (Err x) h q k = absurd (cc)
-unwritten old new left left' stop.ReadFault (Err x) h q k = absurd (cc)
+pub unwritten : (came : List ℕ) (old new : Reading) (left left' : Option (List ℕ)) (s : Stop) (r : Result Message Stop) → IsErrAnd r (λ (x : Stop). x ≡ s)
+    → ReadsOn came old new left left' (Err s) → IsErrOf r stop.WriteFault → ⊥
+unwritten came old new left left' s (Ok m) h q k = absurd h
+unwritten came old new left left' stop.WriteFault (Err x) h q k = q
+unwritten came old new left left' stop.Empty (Err x) h q k = absurd (cc)
+unwritten came old new left left' stop.Cut (Err x) h q k = absurd (cc)
+unwritten came old new left left' stop.ReadFault (Err x) h q k = absurd (cc)
+
+pub first_cause : (reads reads' writes : ℕ) (old new : Reading) (left left' : Option (List ℕ)) (s : Stop) (r : Result Message Stop)
+    → IsErrAnd r (λ (x : Stop). x ≡ s) → HasReadCause {T = Fed} reads reads' (Err s) → ReadsOn [] old new left left' (Err s)
+    → HasStopCause reads reads' writes writes r
+first_cause reads reads' writes old new left left' s (Ok m) h cause q = absurd h
+first_cause reads reads' writes old new left left' s (Err x) h cause q = record {
+  reads_later = cause.later;
+  writes_later = omega arith;
+  read = λ k. let e : x ≡ stop.ReadFault = cc in cause.failed (ap Err (sym h ∙ e));
+  write = λ k. absurd (unwritten [] old new left left' s (Err x) h q k);
+}
 
 pub body_cause : (reads reads' reads'' writes writes' : ℕ) (r : Result Message Stop) → reads ≤ reads' → HasReadCause reads' reads'' r
     → writes ≤ writes' → (IsErrOf r stop.WriteFault → ⊥) → HasStopCause reads reads'' writes writes' r

@@ -1,10 +1,9 @@
 -- The verdicts on the bytes of a request as more of them come.
-use Rattle.std.proofs.Common.{◌≡◌, ℕ, ◌+◌, ◌≤◌, ◌<◌, Bool, true, false, List, [], ◌∷◌, ◌++◌, length, take, refl, sym, ap, ◌∙◌, subst, append_assoc, append-nil, length-append, arith, Some, None, inl, inr}
+use Rattle.std.proofs.Common.{◌≡◌, ℕ, ◌+◌, ◌≤◌, Bool, true, false, List, [], ◌++◌, length, take, refl, sym, ap, ◌∙◌, subst, append_assoc, append-nil, arith, Some, None}
 use Rattle.std.specs.Prelude.{nat_lt, nat_le, if◌then◌else◌}
 use Rattle.std.proofs.lemmas.Bool.Decides.{nat_tests}
-use Rattle.httparse.specs.Grammar.{RequestHead, IsRequestHead, print_request, ReadsRequest, HasNoRequest, MayBecomeRequest, NeverHasRequest}
+use Rattle.httparse.specs.Grammar.{RequestHead, print_request, ReadsRequest, NeverHasRequest}
 use Rattle.httparse.proofs.GrammarLemmas.{request_unique}
-use Rattle.httparse.proofs.OpenLemmas.{request_may_from_line, line_blank}
 use Rattle.ws_http.specs.declared.fed.BadWhy.TheVariants as why
 use Rattle.ws_http.specs.declared.head.Framing.{Framing}
 use Rattle.ws_http.specs.declared.head.Framing.TheVariants as framing
@@ -16,7 +15,7 @@ use Rattle.ws_http.specs.declared.fed.Fed.TheVariants as fed
 use Rattle.ws_http.specs.Chunks.{Chunk}
 use Rattle.ws_http.specs.Fields.{request_framing, has_host, fields_of}
 use Rattle.ws_http.specs.Heads.{Judges, IsSound}
-use Rattle.ws_http.specs.Requests.{Verdict, unfinished, headed, whole, bad, is_headed, is_final, said, fixed_verdict, Ends, ChunkedVerdict, FramedVerdict, HeadVerdict, IsRequest}
+use Rattle.ws_http.specs.Requests.{Verdict, unfinished, headed, whole, bad, is_headed, is_final, said, Ends, FramedVerdict, HeadVerdict, IsRequest}
 use Rattle.ws_http.proofs.ReaderLemmas.{front_more}
 
 -- ---- heads
@@ -37,17 +36,6 @@ false_true b f t = absurd (cc)
 not_headed : (b : Bool) (v : Verdict) → v ≡ (if b then bad why.TooLong false else unfinished) → is_headed v ≡ false
 not_headed true v e = ap is_headed e
 not_headed false v e = ap is_headed e
-
--- a sound head stands at the front of bytes whose verdict says so
-head_by : (bytes : List ℕ) (j : Judged) (v : Verdict) → Judges (take 16384 bytes) j → HeadVerdict 16384 bytes j v → is_headed v ≡ true
-    → (h : RequestHead) × (rest : List ℕ) × ReadsRequest (take 16384 bytes) h rest
-head_by bytes judged.Open v x says there = false_true (is_headed v) (not_headed (nat_lt 16384 (length bytes)) v says) there
-head_by bytes (judged.Bad reason) v x says there = false_true (is_headed v) (ap is_headed says) there
-head_by bytes (judged.Head len f) v x says there = (x.0, x.1.rest, x.1.reads)
-
-pub head_of : (bytes : List ℕ) (v : Verdict) → IsRequest 16384 bytes v → is_headed v ≡ true
-    → (h : RequestHead) × (rest : List ℕ) × ReadsRequest (take 16384 bytes) h rest
-head_of bytes v r there = head_by bytes r.front v r.judges r.says there
 
 -- the bytes have a sound head that declares this framing, and no whole message
 record IsHeaded (bytes : List ℕ) : Type 0 where
@@ -171,22 +159,3 @@ short_by bytes (judged.Head len f) v e going = framed_short len bytes f v e goin
 -- a message that goes on has no more bytes than there is room for
 pub is_short : (bytes : List ℕ) (v : Verdict) → IsRequest 16384 bytes v → is_final v ≡ false → length bytes ≤ 16384
 is_short bytes v r going = short_by bytes r.front v r.says going
-
--- ---- no bytes
-
-length_request : (h : RequestHead) → 0 < length (print_request h)
-unfolding print_request
-length_request h = simp length-append (omega arith)
-
-none_in_nothing : HasNoRequest []
-none_in_nothing h rest r =
-    let e : 0 ≡ length (print_request h ++ rest) = ap length r.1 in
-    let k : 0 < length (print_request h) = length_request h in
-    absurd (omega (arith, length-append (print_request h) rest))
-
-may_begin : MayBecomeRequest []
-may_begin = request_may_from_line (inl (line_blank {s = []} (record { more = []; tree = []; reads = λ rest. refl })))
-
--- nothing is said where no byte came
-pub nothing_said : IsRequest 16384 [] unfinished
-nothing_said = record { front = judged.Open; judges = (none_in_nothing, may_begin); says = refl }

@@ -61,9 +61,9 @@ GivesLine due written written' (Ok u) = Appends written written' (interim_line d
 GivesLine due written written' (Err stop.WriteFault) = (due ≡ true) × AppendsSome written written' (interim_line true)
 GivesLine due written written' (Err other) = ⊥
 
--- a reader that said this, and keeps all bytes where it isn't done
+-- a reader that said this
 pub record HasSaid (r : Reading) (fed : Fed) : Type 0 where
-  pub going_on : is_final (verdict r) ≡ false → IsOpen r
+  pub going_on : is_final (verdict r) ≡ false → (came : List ℕ) × IsOpen r came
   pub tells : Tells fed (verdict r)
   pub says : fed ≢ More
 
@@ -76,7 +76,7 @@ pub record Passes (hub bytes : List ℕ) (due : Bool) (r : Reading) : Type 0 whe
   pub due_is : due ≡ awaits head
   pub judged : IsRequest 16384 bytes (verdict r)
   pub headed : is_headed (verdict r) ≡ true
-  pub kept : is_final (verdict r) ≡ false → r.bytes ≡ bytes
+  pub going_on : is_final (verdict r) ≡ false → IsOpen r bytes
   pub at_once : AtOnce hub bytes false
 
 -- the count doesn't fall, and a failure comes only where it rose

@@ -1,5 +1,5 @@
 // Reads a request piece by piece, up to the first answer that its rules give.
-ghost use Rattle.std.specs.Prelude.{◌≡◌};
+ghost use Rattle.std.specs.Prelude.{◌≡◌, ℕ, List};
 ghost use Rattle.std.specs.Io.KnownBytes.{Appends};
 ghost use Rattle.ws_model.specs.Cause.{HasCause};
 ghost use Rattle.ws_http.specs.Requests.{is_final};
@@ -64,8 +64,8 @@ fn take_piece<S: Source>(
 /// Reads pieces up to the first one at which the reader says something: that the head is whole, or the message, or that
 /// it is refused.
 pub fn read_on<S: Source>(source: &mut S, reader: &mut RequestReader) -> Result<Fed, Stop>
-    requires { IsOpen reader.old }
-    ensures reads { ReadsOn reader.old reader.new (S.left source.old) (S.left source.new) result }
+    requires { (came : List ℕ) × IsOpen reader.old came }
+    ensures reads { (came : List ℕ) → IsOpen reader.old came → ReadsOn came reader.old reader.new (S.left source.old) (S.left source.new) result }
     ensures cause { HasReadCause (S.faults source.old) (S.faults source.new) result }
 {
     let mut came = reader.headed();

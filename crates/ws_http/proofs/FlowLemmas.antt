@@ -1,6 +1,7 @@
 -- What a step over a piece of a chunked body comes to.
 use Rattle.std.proofs.Common.{◌≡◌, ℕ, zero, suc, ◌+◌, ◌-◌, ◌<◌, ◌≤◌, Bool, true, false, cond, List, [], ◌∷◌, ◌++◌, length, take, drop, refl, sym, ap, ◌∙◌, subst, arith, append_assoc, append-nil, length-append, length-drop, length-take, take-append-drop}
 use Rattle.std.specs.Prelude.{nat_lt, min, ◌==◌, ◌&&◌, MatchBool}
+use Rattle.std.proofs.lemmas.Bool.{false≢true}
 use Rattle.std.proofs.lemmas.Bool.Decides.{nat_tests}
 use Rattle.std.proofs.lemmas.List.{take_min, take-append-le, drop-append-le, drop_all, drop_at}
 use Rattle.std.proofs.Math.Seq.{take-append_seam}
@@ -15,14 +16,14 @@ use Rattle.ws_http.specs.declared.chunk.Next.TheVariants as next
 use Rattle.ws_http.specs.declared.flow.Place.{Place}
 use Rattle.ws_http.specs.declared.flow.Place.TheVariants as place
 use Rattle.ws_http.specs.declared.flow.Point.{Point}
+use Rattle.ws_http.specs.declared.flow.Quota.{Quota}
 use Rattle.ws_http.specs.declared.flow.DataEnd.TheVariants as end
-use Rattle.ws_http.specs.Chunks.{LineIs, LineNext, TrailerNext, end_next}
-use Rattle.ws_http.specs.RequestStages.{HasChunks}
+use Rattle.ws_http.specs.Chunks.{HasChunks, LineIs, LineNext, TrailerNext, end_next}
 use Rattle.ws_http.specs.ResponseFields.{kept_of}
 use Rattle.ws_http.specs.Responses.{is_over}
-use Rattle.ws_http.specs.ResponseStages.{HasData, is_full}
+use Rattle.ws_http.specs.ResponseStages.{is_full}
 use Rattle.ws_http.specs.Flow.{Flows, IsHeld, IsShut, AtLine, InData, begin}
-use Rattle.ws_http.specs.ResponseData.{StopsAt, IsDataEnd, IsIdle, more_of}
+use Rattle.ws_http.specs.FlowEnds.{HasData, StopsAt, IsDataEnd, IsIdle, more_of, most_of}
 use Rattle.ws_http.proofs.ChunkLemmas.{behind_last, end_found}
 use Rattle.ws_http.proofs.StageLemmas.{chunks_begin, chunks_go_on}
 use Rattle.ws_http.proofs.ReaderLemmas.{chunks_more}
@@ -138,10 +139,16 @@ full_by need.Status f = absurd (f refl)
 full_by need.Short f = absurd (f refl)
 full_by need.Full f = refl
 
-pub kept_room : (n : Need) (body content z : List ℕ) → is_full n ≡ false → body ≡ kept_of n content → length body + length (more_of n (length body) z) ≤ 41
-kept_room need.Status body content z part e = omega (arith, ap length e, length-take 0 z)
-kept_room need.Short body content z part e = omega (arith, ap length e, length-take 41 content, length-take (41 - length body) z)
-kept_room need.Full body content z part e = absurd (cc)
+pub part_most : (n : Need) (room : ℕ) → is_full n ≡ false → 41 ≤ room → most_of n body_limit ≤ room
+part_most need.Status room part fits = omega arith
+part_most need.Short room part fits = fits
+part_most need.Full room part fits = absurd (cc)
+
+pub kept_room : (n : Need) (limit : ℕ) (body content z : List ℕ) → body ≡ kept_of n content → length content + length z ≤ limit
+    → length body + length (more_of n (length body) z) ≤ most_of n limit
+kept_room need.Status limit body content z e fits = omega (arith, ap length e, length-take 0 z)
+kept_room need.Short limit body content z e fits = omega (arith, ap length e, length-take 41 content, length-take (41 - length body) z)
+kept_room need.Full limit body content z e fits = omega (arith, ap length e)
 
 -- ---- where no byte of the body came
 
@@ -150,14 +157,14 @@ kept_none need.Status = refl
 kept_none need.Short = refl
 kept_none need.Full = refl
 
-pub flow_begins : (n : Need) → Flows n [] [] [] begin
+pub flow_begins : (n : Quota) → Flows n [] [] [] begin
 flow_begins n = record {
   content = [];
   more = [];
   at = 0;
   read = chunks_begin [] [] 0 refl (omega arith);
   behind = record { all = refl; none = refl; shut = shut_none };
-  kept = kept_none n;
+  kept = kept_none n.need;
   counted = refl;
   small = omega arith;
   count = refl;
@@ -170,22 +177,22 @@ held_by rest held more place.Line o = omega (arith, ap length o.all)
 held_by rest held more (place.Data left) o =
     omega (arith, ap length o.split, length-append more held, length-drop o.len rest)
 
-pub flow_held : (n : Need) (came held body : List ℕ) (p : Point) → Flows n came held body p → length held ≤ p.count
+pub flow_held : (n : Quota) (came held body : List ℕ) (p : Point) → Flows n came held body p → length held ≤ p.count
 flow_held n came held body p k =
     omega (arith, held_by (drop k.at came) held k.more p.place k.behind, length-drop k.at came, k.count)
 
-pub line_of : (n : Need) (came held body : List ℕ) (p : Point) (k : Flows n came held body p) → p.place ≡ place.Line → AtLine (drop k.at came) held k.more
+pub line_of : (n : Quota) (came held body : List ℕ) (p : Point) (k : Flows n came held body p) → p.place ≡ place.Line → AtLine (drop k.at came) held k.more
 line_of n came held body p k e = subst (λ (q : Place). IsHeld (drop k.at came) held k.more q) e k.behind
 
-pub data_of : (n : Need) (came held body : List ℕ) (p : Point) (left : ℕ) (k : Flows n came held body p) → p.place ≡ place.Data left
+pub data_of : (n : Quota) (came held body : List ℕ) (p : Point) (left : ℕ) (k : Flows n came held body p) → p.place ≡ place.Data left
     → InData (drop k.at came) held k.more left
 data_of n came held body p left k e = subst (λ (q : Place). IsHeld (drop k.at came) held k.more q) e k.behind
 
-module _ (n : Need) (came held body : List ℕ) (p : Point) (k : Flows n came held body p) where
+module _ (n : Quota) (came held body : List ℕ) (p : Point) (k : Flows n came held body p) where
   rest_more : (z : List ℕ) → drop k.at (came ++ z) ≡ drop k.at came ++ z
   rest_more z = drop-append-le k.at came z k.read.inside
 
-  has_data : (z : List ℕ) → HasData n (came ++ z) (kept_of n k.content) k.at (length k.content)
+  has_data : (z : List ℕ) → HasData n (came ++ z) (kept_of n.need k.content) k.at (length k.content)
   has_data z = record {
     content = k.content;
     read = chunks_more came z k.content 0 k.at k.read;
@@ -259,7 +266,7 @@ module _ (n : Need) (came held body : List ℕ) (p : Point) (k : Flows n came he
     line_never z y now is =
         let never : LineIs (held ++ (z ++ y)) line.Never =
         subst (λ (t : List ℕ). LineIs t line.Never) (append_assoc held z y) (never_more (held ++ z) y is) in (
-          kept_of n k.content,
+          kept_of n.need k.content,
           k.at,
           length k.content,
           line.Never,
@@ -271,9 +278,9 @@ module _ (n : Need) (came held body : List ℕ) (p : Point) (k : Flows n came he
           refl,
         )
 
-    no_data : kept_of n k.content ≡ body
+    no_data : kept_of n.need k.content ≡ body
     no_data =
-        ap (λ (t : List ℕ). kept_of n t) (sym (append-nil k.content) ∙ ap (λ (t : List ℕ). k.content ++ t) (sym o.none)) ∙ sym k.kept
+        ap (λ (t : List ℕ). kept_of n.need t) (sym (append-nil k.content) ∙ ap (λ (t : List ℕ). k.content ++ t) (sym o.none)) ∙ sym k.kept
 
     -- a last chunk's line is whole
     module _ (z : List ℕ) (len : ℕ) (is : LineIs held (line.Whole len 0)) where
@@ -283,15 +290,15 @@ module _ (n : Need) (came held body : List ℕ) (p : Point) (k : Flows n came he
       last_next : (m : Next) → TrailerNext len (drop len (held ++ z)) m → LineNext (drop k.at (came ++ z)) (line.Whole len 0) m
       last_next m t = subst (λ (t : List ℕ). LineNext t (line.Whole len 0) m) (all_more z) (behind_last (held ++ z) len 0 m refl t)
 
-      stops : StopsAt n (came ++ z) (kept_of n k.content) k.at (length k.content) false (line.Whole len 0)
+      stops : StopsAt n (came ++ z) (kept_of n.need k.content) k.at (length k.content) false (line.Whole len 0)
       stops =
           let r = length (drop k.at (came ++ z)) in
           let none : min 0 (r - len) ≡ 0 = omega arith in
-          let fits : length k.content + min 0 (r - len) ≤ body_limit = omega (arith, none, k.small, k.counted, length-append k.content k.more) in
+          let fits : length k.content + min 0 (r - len) ≤ n.limit = omega (arith, none, k.small, k.counted, length-append k.content k.more) in
           record { read = has_data z; is = last_is; over_is = grind (arith, nat_tests, fits) }
 
       pub trailer_wrong : (now : List ℕ) → TrailerNext len (drop len (held ++ z)) next.Wrong → IsDataEnd n (came ++ z) now body end.Wrong
-      trailer_wrong now t = (kept_of n k.content, k.at, length k.content, line.Whole len 0, stops, last_next next.Wrong t)
+      trailer_wrong now t = (kept_of n.need k.content, k.at, length k.content, line.Whole len 0, stops, last_next next.Wrong t)
 
       pub trailer_open : TrailerNext len (drop len (held ++ z)) next.Open
           → IsDataEnd n (came ++ z) (held ++ z) body (end.Open (record { place = place.Line; count = p.count + length z; size = p.size }))
@@ -339,8 +346,8 @@ module _ (n : Need) (came held body : List ℕ) (p : Point) (k : Flows n came he
     behind_long z =
         omega (arith, ap length (behind_more z), length-drop d.len (drop k.at (came ++ z)), length-append k.more (held ++ z), length-append held z)
 
-    pub data_on : 0 < left → (z : List ℕ) → length z ≤ left → p.size + length z ≤ body_limit
-        → Flows n (came ++ z) held (body ++ more_of n (length body) z)
+    pub data_on : 0 < left → (z : List ℕ) → length z ≤ left → p.size + length z ≤ n.limit
+        → Flows n (came ++ z) held (body ++ more_of n.need (length body) z)
         (record { place = place.Data (left - length z); count = p.count + length z; size = p.size + length z })
     data_on some z fits small =
         let none : held ≡ [] = d.none some in
@@ -361,20 +368,20 @@ module _ (n : Need) (came held body : List ℕ) (p : Point) (k : Flows n came he
             none = λ _. none;
             end = d.end;
           };
-          kept = kept_more n body (k.content ++ k.more) z k.kept ∙ ap (λ (t : List ℕ). kept_of n t) join;
+          kept = kept_more n.need body (k.content ++ k.more) z k.kept ∙ ap (λ (t : List ℕ). kept_of n.need t) join;
           counted = omega (arith, k.counted, length-append (k.content ++ k.more) z, ap length join);
           small = small;
           count = omega (arith, k.count, length-append came z);
         }
 
-    pub data_over : 0 < left → (piece now new : List ℕ) (taken : ℕ) → taken ≡ min left (length piece) → body_limit < p.size + taken
+    pub data_over : 0 < left → (piece now new : List ℕ) (taken : ℕ) → taken ≡ min left (length piece) → n.limit < p.size + taken
         → IsDataEnd n (came ++ piece) now new end.Over
     data_over some piece now new taken is past =
         let r = length (drop k.at (came ++ piece)) in
         let long : min d.size (r - d.len) ≡ length k.more + taken =
         omega (arith, behind_long piece, d.missing, is, ap length (d.none some)) in
-        let heavy : body_limit < length k.content + min d.size (r - d.len) = omega (arith, long, past, k.counted, length-append k.content k.more) in (
-          kept_of n k.content,
+        let heavy : n.limit < length k.content + min d.size (r - d.len) = omega (arith, long, past, k.counted, length-append k.content k.more) in (
+          kept_of n.need k.content,
           k.at,
           length k.content,
           line.Whole d.len d.size,
@@ -418,11 +425,11 @@ module _ (n : Need) (came held body : List ℕ) (p : Point) (k : Flows n came he
     end_wrong z y now new wrong =
         let r = length (drop k.at (came ++ (z ++ y))) in
         let long : min (d 0 e).size (r - (d 0 e).len) ≡ length k.more = omega (arith, behind_long 0 e (z ++ y), (d 0 e).missing) in
-        let light : length k.content + min (d 0 e).size (r - (d 0 e).len) ≤ body_limit = omega (arith, long, k.small, k.counted, length-append k.content k.more) in
+        let light : length k.content + min (d 0 e).size (r - (d 0 e).len) ≤ n.limit = omega (arith, long, k.small, k.counted, length-append k.content k.more) in
         let here = sym (wrong_any 0 0 (d 0 e).len (d 0 e).size (held ++ z) wrong) in
         let still = end_more (held ++ z) y (d 0 e).len (d 0 e).size next.Wrong tt here
         ∙ ap (λ (t : List ℕ). end_next (d 0 e).len (d 0 e).size t) (append_assoc held z y ∙ sym (end_behind (z ++ y))) in (
-          kept_of n k.content,
+          kept_of n.need k.content,
           k.at,
           length k.content,
           line.Whole (d 0 e).len (d 0 e).size,
@@ -454,7 +461,7 @@ module _ (n : Need) (came held body : List ℕ) (p : Point) (k : Flows n came he
           at = at;
           read = subst (λ (t : List ℕ). HasChunks (came ++ z) (k.content ++ t) 0 at) content read;
           behind = record { all = sym (nothing (drop at (came ++ z)) over); none = refl; shut = shut_none };
-          kept = k.kept ∙ ap (λ (t : List ℕ). kept_of n t) (sym (append-nil (k.content ++ k.more)));
+          kept = k.kept ∙ ap (λ (t : List ℕ). kept_of n.need t) (sym (append-nil (k.content ++ k.more)));
           counted = k.counted ∙ ap length (sym (append-nil (k.content ++ k.more)));
           small = k.small;
           count = omega (arith, k.count, length-append came z);
@@ -462,19 +469,19 @@ module _ (n : Need) (came held body : List ℕ) (p : Point) (k : Flows n came he
 
 -- ---- where all that came was read
 
-idle_over : (l : Line) (held : List ℕ) (size room : ℕ) → IsShut held → LineIs held l → size ≤ body_limit → is_over size room l ≡ false
-idle_over line.Open held size room shut is small = refl
-idle_over line.Never held size room shut is small = refl
-idle_over (line.Whole len k) held size room shut is small =
+idle_over : (limit : ℕ) (l : Line) (held : List ℕ) (size room : ℕ) → IsShut held → LineIs held l → size ≤ limit → is_over limit size room l ≡ false
+idle_over limit line.Open held size room shut is small = refl
+idle_over limit line.Never held size room shut is small = refl
+idle_over limit (line.Whole len k) held size room shut is small =
     let none : k ≡ 0 = shut len k is in
-    let fits : size + min k (room - len) ≤ body_limit = omega (arith, none, small) in
+    let fits : size + min k (room - len) ≤ limit = omega (arith, none, small) in
     grind (arith, nat_tests, fits)
 
-module _ (n : Need) (came held body : List ℕ) (p : Point) (k : Flows n came held body p) where
+module _ (n : Quota) (came held body : List ℕ) (p : Point) (k : Flows n came held body p) where
   abbrev Stops : Type 0
   Stops = (kept : List ℕ) × (at : ℕ) × (size : ℕ) × (l : Line) × StopsAt n came kept at size false l × LineNext (drop at came) l next.Open
 
-  read_here : HasData n came (kept_of n k.content) k.at (length k.content)
+  read_here : HasData n came (kept_of n.need k.content) k.at (length k.content)
   read_here = record {
     content = k.content;
     read = k.read;
@@ -486,15 +493,15 @@ module _ (n : Need) (came held body : List ℕ) (p : Point) (k : Flows n came he
   stops_by : (q : Place) → p.place ≡ q → IsIdle held q → Stops
   stops_by place.Line e idle =
       let o = line_of n came held body p k e in
-      let small : length k.content ≤ body_limit = omega (arith, k.small, k.counted, length-append k.content k.more) in (
-        kept_of n k.content,
+      let small : length k.content ≤ n.limit = omega (arith, k.small, k.counted, length-append k.content k.more) in (
+        kept_of n.need k.content,
         k.at,
         length k.content,
         idle.0,
         record {
           read = read_here;
           is = subst (λ (t : List ℕ). LineIs t idle.0) o.all idle.1;
-          over_is = idle_over idle.0 held (length k.content) (length (drop k.at came)) o.shut idle.1 small;
+          over_is = idle_over n.limit idle.0 held (length k.content) (length (drop k.at came)) o.shut idle.1 small;
         },
         subst (λ (t : List ℕ). LineNext t idle.0 next.Open) o.all idle.2,
       )
@@ -504,10 +511,10 @@ module _ (n : Need) (came held body : List ℕ) (p : Point) (k : Flows n came he
       let long = ap length d.split in
       let all : length rest - d.len ≡ length k.more + length held = omega (arith, long, length-drop d.len rest, length-append k.more held) in
       let least : min d.size (length rest - d.len) ≡ length k.more = min_by left (length k.more) (length held) d.size (length rest - d.len) d.missing all (λ some. ap length (d.none some)) in
-      let light : length k.content + min d.size (length rest - d.len) ≤ body_limit =
+      let light : length k.content + min d.size (length rest - d.len) ≤ n.limit =
       omega (arith, least, k.small, k.counted, length-append k.content k.more) in
       let behind : drop d.size (drop d.len rest) ≡ held = end_of left k.more held d.size (drop d.len rest) d.missing d.split (λ some. d.none some) in (
-        kept_of n k.content,
+        kept_of n.need k.content,
         k.at,
         length k.content,
         line.Whole d.len d.size,
@@ -515,6 +522,22 @@ module _ (n : Need) (came held body : List ℕ) (p : Point) (k : Flows n came he
         behind_data rest d.len d.size next.Open d.some (sym (ap (λ (t : List ℕ). end_next d.len d.size t) behind ∙ d.end)),
       )
 
-pub open_stops : (n : Need) (came held body : List ℕ) (p : Point) → IsDataEnd n came held body (end.Open p)
+pub open_stops : (n : Quota) (came held body : List ℕ) (p : Point) → IsDataEnd n came held body (end.Open p)
     → (kept : List ℕ) × (at : ℕ) × (size : ℕ) × (l : Line) × StopsAt n came kept at size false l × LineNext (drop at came) l next.Open
 open_stops n came held body p e = stops_by n came held body p e.0 p.place refl e.1
+
+-- data that came among so many bytes doesn't pass a limit that they don't
+never_over : (limit size place long : ℕ) (l : Line) → size ≤ place → place ≤ long → long ≤ limit → is_over limit size (long - place) l ≡ true → ⊥
+never_over limit size place long line.Open small inside fits over = false≢true over
+never_over limit size place long line.Never small inside fits over = false≢true over
+never_over limit size place long (line.Whole len k) small inside fits over =
+    let light : size + min k (long - place - len) ≤ limit = omega (arith, small, inside, fits) in
+    let no : nat_lt limit (size + min k (long - place - len)) ≡ false = grind (arith, nat_tests, light) in
+    false≢true (sym no ∙ over)
+
+pub within_limit : (n : Quota) (came held body : List ℕ) → length came ≤ n.limit → IsDataEnd n came held body end.Over → ⊥
+within_limit n came held body fits d =
+    let s = d.4 in
+    let small : d.2 ≤ d.1 = omega (arith, s.read.counted, s.read.read.small) in
+    never_over n.limit d.2 d.1 (length came) d.3 small s.read.read.inside fits
+    (ap (λ (j : ℕ). is_over n.limit d.2 j d.3) (sym (length-drop d.1 came)) ∙ s.over_is)

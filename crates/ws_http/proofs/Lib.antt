@@ -13,6 +13,7 @@ pub mod ReplyStageLemmas
 pub mod ReplyReaderLemmas
 pub mod ReplyTailLemmas
 pub mod ReplyChunkLemmas
+pub mod RequestChunkLemmas
 pub mod ReplyPartLemmas
 pub mod FitLemmas
 pub mod OutcomeLemmas

@@ -44,15 +44,15 @@ module _ (n : Need) (start : ℕ) (h : ResponseHead) (bytes : List ℕ) where
       → IsSame p.chunks q.chunks p.rest q.rest → v ≡ w
   same_one v w p q s =
       let l = line_one p.rest p.line q.line p.is (subst (λ (t : List ℕ). LineIs t q.line) (sym s.rest) q.is) in
-      let heavy : is_over (length (chunk_data q.chunks)) (length q.rest) q.line ≡ is_over (length (chunk_data p.chunks)) (length p.rest) p.line =
-      λ i. is_over (length (sym s.content i)) (length (sym s.rest i)) (sym l i) in
+      let heavy : is_over body_limit (length (chunk_data q.chunks)) (length q.rest) q.line ≡ is_over body_limit (length (chunk_data p.chunks)) (length p.rest) p.line =
+      λ i. is_over body_limit (length (sym s.content i)) (length (sym s.rest i)) (sym l i) in
       let says = subst (λ (b : Bool). MatchBool b (w ≡ bad why.TooLong) ((k : Next) × LineNext q.rest q.line k × ChunksEnd n start h bytes q.chunks k w))
       heavy q.says in
-      let here = subst (λ (t : List ℕ). MatchBool (is_over (length (chunk_data p.chunks)) (length p.rest) p.line) (w ≡ bad why.TooLong)
+      let here = subst (λ (t : List ℕ). MatchBool (is_over body_limit (length (chunk_data p.chunks)) (length p.rest) p.line) (w ≡ bad why.TooLong)
       ((k : Next) × LineNext t q.line k × ChunksEnd n start h bytes q.chunks k w)) (sym s.rest) says in
-      let there = subst (λ (x : Line). MatchBool (is_over (length (chunk_data p.chunks)) (length p.rest) p.line) (w ≡ bad why.TooLong)
+      let there = subst (λ (x : Line). MatchBool (is_over body_limit (length (chunk_data p.chunks)) (length p.rest) p.line) (w ≡ bad why.TooLong)
       ((k : Next) × LineNext p.rest x k × ChunksEnd n start h bytes q.chunks k w)) (sym l) here in
-      says_one p.chunks q.chunks p.rest p.line v w (is_over (length (chunk_data p.chunks)) (length p.rest) p.line) s.content s.text p.says there
+      says_one p.chunks q.chunks p.rest p.line v w (is_over body_limit (length (chunk_data p.chunks)) (length p.rest) p.line) s.content s.text p.says there
 
   light : (before size room : ℕ) → before + size ≤ body_limit → nat_lt body_limit (before + min size room) ≡ true → ⊥
   light before size room fits e =
@@ -61,7 +61,7 @@ module _ (n : Need) (start : ℕ) (h : ResponseHead) (bytes : List ℕ) where
 
   no_chunk : (cs : List Chunk) (rest behind : List ℕ) (d : Chunk) (v : Verdict) (b : Bool)
       → (is : IsChunk d) → rest ≡ print_chunk d ++ behind
-      → is_over (length (chunk_data cs)) (length rest) (line.Whole (length (print_chunk_line d.line)) (length d.content)) ≡ b
+      → is_over body_limit (length (chunk_data cs)) (length rest) (line.Whole (length (print_chunk_line d.line)) (length d.content)) ≡ b
       → length (chunk_data cs) + length d.content ≤ body_limit
       → MatchBool b (v ≡ bad why.TooLong)
       ((k : Next) × LineNext rest (line.Whole (length (print_chunk_line d.line)) (length d.content)) k × ChunksEnd n start h bytes cs k v) → ⊥
@@ -75,7 +75,7 @@ module _ (n : Need) (start : ℕ) (h : ResponseHead) (bytes : List ℕ) where
   no_shorter v p ds small s =
       let l = line_one p.rest p.line (line.Whole (length (print_chunk_line s.chunk.line)) (length s.chunk.content)) p.is
       (chunk_line_is p.rest s.behind s.chunk s.is s.split) in
-      let says = subst (λ (x : Line). MatchBool (is_over (length (chunk_data p.chunks)) (length p.rest) x) (v ≡ bad why.TooLong)
+      let says = subst (λ (x : Line). MatchBool (is_over body_limit (length (chunk_data p.chunks)) (length p.rest) x) (v ≡ bad why.TooLong)
       ((k : Next) × LineNext p.rest x k × ChunksEnd n start h bytes p.chunks k v)) l p.says in
       no_chunk p.chunks p.rest s.behind s.chunk v _ s.is s.split refl (omega (arith, s.counted, small)) says
 

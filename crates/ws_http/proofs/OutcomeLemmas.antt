@@ -64,7 +64,7 @@ module _ (n : Need) (start : ℕ) (h : ResponseHead) (is : IsResponseHead h) (co
   body_by None v e = subst FitVerdict (sym e) tt
   body_by (Some (extent.Fixed m)) v e = subst FitVerdict (sym e) (fixed_by m (nat_lt body_limit m) (nat_le (start + m) (length bytes)) refl)
   body_by (Some extent.Chunked) v q =
-      chunks_by q.chunks q.rest q.line v (is_over (length (chunk_data q.chunks)) (length q.rest) q.line) q.small q.says
+      chunks_by q.chunks q.rest q.line v (is_over body_limit (length (chunk_data q.chunks)) (length q.rest) q.line) q.small q.says
   body_by (Some extent.Lasting) v e = subst FitVerdict (sym e) (lasting_by (nat_lt body_limit (length (drop start bytes))) refl)
 
 final_by : (n : Need) (start : ℕ) (h : ResponseHead) → IsResponseHead h → nat_le 200 (status_code h) ≡ true → length (print_response h) ≤ 16384

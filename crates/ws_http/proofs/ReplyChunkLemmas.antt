@@ -1,8 +1,8 @@
 -- What a piece of a chunked body of a response comes to.
-use Rattle.std.proofs.Common.{◌≡◌, ℕ, ◌+◌, ◌-◌, ◌<◌, ◌≤◌, Bool, true, false, cond, List, [], ◌++◌, length, take, drop, refl, sym, ap, ◌∙◌, subst, arith, append_assoc, length-append, length-drop, length-take, take-append-drop, Some}
+use Rattle.std.proofs.Common.{◌≡◌, ℕ, ◌+◌, ◌-◌, ◌<◌, ◌≤◌, Bool, true, false, cond, List, [], ◌++◌, length, take, drop, refl, sym, ap, ◌∙◌, subst, arith, length-append, length-drop, length-take, take-append-drop, Some}
 use Rattle.std.specs.Prelude.{nat_lt}
 use Rattle.std.proofs.lemmas.Bool.Decides.{nat_tests}
-use Rattle.std.proofs.lemmas.List.{take-take, take_all, take-append-le, drop-append-le}
+use Rattle.std.proofs.lemmas.List.{take_all, take-append-le, drop-append-le}
 use Rattle.std.proofs.Math.Seq.{take-append_seam}
 use Rattle.httparse.specs.Grammar.{ResponseHead, print_response}
 use Rattle.ws_model.specs.Legal.{body_limit}
@@ -18,8 +18,8 @@ use Rattle.ws_http.specs.Chunks.{print_chunks}
 use Rattle.ws_http.specs.Flow.{Flows, begin}
 use Rattle.ws_http.specs.ResponseFields.{kept_of, reply_of}
 use Rattle.ws_http.specs.Responses.{headed, whole, bad, raw_limit, print_heads}
-use Rattle.ws_http.specs.ResponseStages.{Ready, Chunking, Stands, HasInterims, HasFinal, HeadWithin, Unled, extent_by, front, room_of, is_status}
-use Rattle.ws_http.specs.ResponseData.{IsDataEnd}
+use Rattle.ws_http.specs.ResponseStages.{Ready, Chunking, Stands, HasInterims, HasFinal, HeadWithin, Unled, extent_by, front, quota_of, room_of, is_status}
+use Rattle.ws_http.specs.FlowEnds.{IsDataEnd}
 use Rattle.ws_http.proofs.ReaderLemmas.{front_more, take_over}
 use Rattle.ws_http.proofs.ReplyLemmas.{kept_twice, kept_short}
 use Rattle.ws_http.proofs.ReplyStageLemmas.{start_small, chunked_is, reply_kept, room_big}
@@ -101,7 +101,7 @@ module _ (n : Need) (raw0 body0 : List ℕ) (f : FinalHead) (p : Point) (came pi
   pub final_raw : HasFinal (front raw) f k.head
   final_raw = same_heads raw (came ++ piece) f k.head heads_all final_all
 
-  pub over_stands : IsDataEnd n (drop f.start came ++ part) (drop f.start raw) body end.Over
+  pub over_stands : IsDataEnd (quota_of n) (drop f.start came ++ part) (drop f.start raw) body end.Over
       → Stands (record { need = n; bytes = raw; content = body; stage = stage.Bad why.TooLong }) (came ++ piece) false
   over_stands d = record {
     verdict = bad why.TooLong;
@@ -110,7 +110,7 @@ module _ (n : Need) (raw0 body0 : List ℕ) (f : FinalHead) (p : Point) (came pi
     kept = tt;
   }
 
-  pub wrong_stands : IsDataEnd n (drop f.start came ++ part) (drop f.start raw) body end.Wrong
+  pub wrong_stands : IsDataEnd (quota_of n) (drop f.start came ++ part) (drop f.start raw) body end.Wrong
       → Stands (record { need = n; bytes = raw; content = body; stage = stage.Bad why.Chunk }) (came ++ piece) false
   wrong_stands d = record {
     verdict = bad why.Chunk;
@@ -120,10 +120,10 @@ module _ (n : Need) (raw0 body0 : List ℕ) (f : FinalHead) (p : Point) (came pi
     kept = tt;
   }
 
-  pub past_stands : (q : Point) → IsDataEnd n (drop f.start came ++ part) (drop f.start raw) body (end.Open q) → length part < length piece
+  pub past_stands : (q : Point) → IsDataEnd (quota_of n) (drop f.start came ++ part) (drop f.start raw) body (end.Open q) → length part < length piece
       → Stands (record { need = n; bytes = raw; content = body; stage = stage.Bad why.TooLong }) (came ++ piece) false
   past_stands q e less =
-      let d = open_stops n (drop f.start came ++ part) (drop f.start raw) body q e in
+      let d = open_stops (quota_of n) (drop f.start came ++ part) (drop f.start raw) body q e in
       let long : raw_limit < length (drop f.start (came ++ piece)) =
       omega (arith, less, ap length part_is, length-take (raw_limit - p.count) piece, ap length behind_all, length-append (drop f.start came) piece, k.flows.count, k.limit) in
       let past : nat_lt raw_limit (length (drop f.start (came ++ piece))) ≡ true = grind (arith, nat_tests, long) in
@@ -135,7 +135,7 @@ module _ (n : Need) (raw0 body0 : List ℕ) (f : FinalHead) (p : Point) (came pi
         kept = tt;
       }
 
-  module _ (q : Point) (e : IsDataEnd n (drop f.start came ++ part) (drop f.start raw) body (end.Open q)) (fits : length piece ≤ length part) where
+  module _ (q : Point) (e : IsDataEnd (quota_of n) (drop f.start came ++ part) (drop f.start raw) body (end.Open q)) (fits : length piece ≤ length part) where
     whole_part : part ≡ piece
     whole_part =
         part_is ∙ take_all (raw_limit - p.count) piece (omega (arith, fits, ap length part_is, length-take (raw_limit - p.count) piece))
@@ -148,14 +148,14 @@ module _ (n : Need) (raw0 body0 : List ℕ) (f : FinalHead) (p : Point) (came pi
       asks = k.asks;
       heads = heads_all;
       inside = inside;
-      flows = subst (λ (t : List ℕ). Flows n t (drop f.start raw) body q)
+      flows = subst (λ (t : List ℕ). Flows (quota_of n) t (drop f.start raw) body q)
           (ap (λ (t : List ℕ). drop f.start came ++ t) whole_part ∙ sym behind_all) e.0;
       limit = omega (arith, e.0.count, ap length same, length-take raw_limit (drop f.start (came ++ piece)));
     }
 
     pub open_stands : Stands (record { need = n; bytes = raw; content = body; stage = stage.Chunked f q }) (came ++ piece) false
     open_stands =
-        let d = open_stops n (drop f.start came ++ part) (drop f.start raw) body q e in
+        let d = open_stops (quota_of n) (drop f.start came ++ part) (drop f.start raw) body q e in
         let short : length (drop f.start (came ++ piece)) ≤ raw_limit =
         omega (
           arith,
@@ -175,7 +175,7 @@ module _ (n : Need) (raw0 body0 : List ℕ) (f : FinalHead) (p : Point) (came pi
           kept = still_chunking;
         }
 
-  module _ (total : ℕ) (d : IsDataEnd n (drop f.start came ++ part) (drop f.start raw) body (end.Last total)) where
+  module _ (total : ℕ) (d : IsDataEnd (quota_of n) (drop f.start came ++ part) (drop f.start raw) body (end.Last total)) where
     pub last_stands : Stands (record { need = n; bytes = raw; content = body; stage = stage.Whole f (f.start + total) true }) (came ++ piece) false
     last_stands =
         let s = d.4 in
@@ -206,7 +206,7 @@ pub chunking_short : (n : Need) (raw body : List ℕ) (f : FinalHead) (p : Point
 chunking_short n raw body f p came k =
     omega (
       arith,
-      flow_held n (drop f.start came) (drop f.start raw) body p k.flows,
+      flow_held (quota_of n) (drop f.start came) (drop f.start raw) body p k.flows,
       length-drop f.start raw,
       k.inside,
       k.limit,
@@ -229,23 +229,9 @@ chunking_begins n raw f h x ex asks =
       asks = asks;
       heads = refl;
       inside = fits;
-      flows = subst (λ (t : List ℕ). Flows n t t [] begin) none (flow_begins n);
+      flows = subst (λ (t : List ℕ). Flows (quota_of n) t t [] begin) none (flow_begins (quota_of n));
       limit = omega arith;
     }
-
--- the heads and what of the piece stands behind them are all that came
-pub heads_and_piece : (room start before : ℕ) (raw piece : List ℕ) → raw ≡ take room (take before raw ++ piece) → before ≤ start → start ≤ length raw
-    → take start raw ++ drop (start - before) piece ≡ take before raw ++ piece
-heads_and_piece room start before raw piece took first inside =
-    let old = take before raw in
-    let all = old ++ piece in
-    let long : length old ≡ before = omega (arith, length-take before raw, first, inside) in
-    let near : start ≤ room = omega (arith, inside, ap length took, length-take room all) in
-    let heads : take start raw ≡ old ++ take (start - before) piece =
-    ap (λ (t : List ℕ). take start t) took ∙ take-take start room all near ∙ take_over start old piece (omega (arith, long, first))
-    ∙ ap (λ (j : ℕ). old ++ take (start - j) piece) long in
-    ap (λ (t : List ℕ). t ++ drop (start - before) piece) heads ∙ append_assoc old (take (start - before) piece) (drop (start - before) piece)
-    ∙ ap (λ (t : List ℕ). old ++ t) (take-append-drop (start - before) piece)
 
 -- where no head was whole before, one that ends now ends in the new bytes
 reach_by : (b : Bool) (raw more : List ℕ) (at end : ℕ) → nat_lt end (length raw) ≡ b → at ≤ length raw → Unled raw at → HeadWithin (front (raw ++ more)) at end

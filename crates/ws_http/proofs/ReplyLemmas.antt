@@ -16,7 +16,7 @@ use Rattle.ws_http.specs.ResponseFields.{kept_of}
 use Rattle.ws_http.specs.Responses.{IsResponse, unfinished, partial, is_interim, IsInterim, print_heads}
 use Rattle.ws_http.specs.ResponseHeads.{HasHeadOf}
 use Rattle.ws_http.specs.ResponseStages.{HasInterims, HasFinal, HeadWithin, Unled}
-use Rattle.ws_http.specs.ResponseData.{more_of}
+use Rattle.ws_http.specs.FlowEnds.{more_of}
 
 -- ---- the heads
 

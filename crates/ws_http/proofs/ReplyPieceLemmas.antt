@@ -5,12 +5,13 @@ use Rattle.ws_http.specs.declared.fed.BadWhy.{BadWhy}
 use Rattle.ws_http.specs.declared.fed.Need.{Need}
 use Rattle.ws_http.specs.declared.reply_stage.ReplyStage.{ReplyStage}
 use Rattle.ws_http.specs.declared.reply_stage.ReplyStage.TheVariants as stage
-use Rattle.ws_http.specs.Responses.{Verdict, unfinished, closed, bad, fault_outcome, Makes, Got}
-use Rattle.ws_http.specs.ResponseStages.{ReplyReading, FeedsReply, Stands, Says, fresh_reply, is_last, is_starved}
+use Rattle.ws_http.specs.Responses.{Verdict, unfinished, is_final, closed, bad, fault_outcome, Makes, Got}
+use Rattle.ws_http.specs.ResponseStages.{ReplyReading, FeedsReply, Stands, Says, Keeps, fresh_reply, is_last, is_starved}
 use Rattle.ws_http.specs.ReplyPieces.{ReplyStep, FedReply, RepliesAre}
 use Rattle.ws_http.proofs.ReplyLemmas.{nothing_came}
+use Rattle.ws_http.proofs.ReplyStayLemmas.{reply_stays}
 
-starved_last : (s : ReplyStage) → is_last s ≡ false → is_starved s ≡ false
+pub starved_last : (s : ReplyStage) → is_last s ≡ false → is_starved s ≡ false
 starved_last (stage.Head at) e = refl
 starved_last (stage.Fixed f total) e = refl
 starved_last (stage.Lasting f) e = refl
@@ -54,3 +55,34 @@ fault_got r came ended reason st e =
       is = st.is;
       makes = subst (λ (w : Verdict). Makes w (fault_outcome reason)) (sym says) refl;
     }
+
+-- ---- behind a last stage
+
+last_final : (n : Need) (raw body : List ℕ) (s : ReplyStage) (v : Verdict) → is_last s ≡ true → is_starved s ≡ false → Says n raw body s v
+    → is_final v ≡ true
+last_final n raw body (stage.Head at) v last well says = absurd (false≢true last)
+last_final n raw body (stage.Fixed f total) v last well says = absurd (false≢true last)
+last_final n raw body (stage.Lasting f) v last well says = absurd (false≢true last)
+last_final n raw body (stage.Chunked f p) v last well says = absurd (false≢true last)
+last_final n raw body (stage.Whole f total chunked) v last well says = ap is_final says.2
+last_final n raw body (stage.Bad reason) v last well says = ap is_final says
+last_final n raw body stage.NoMemory v last well says = absurd (false≢true (sym well))
+
+kept_last : (n : Need) (raw body came : List ℕ) (s : ReplyStage) → is_last s ≡ true → Keeps n raw body s came
+kept_last n raw body came (stage.Head at) last = absurd (false≢true last)
+kept_last n raw body came (stage.Fixed f total) last = absurd (false≢true last)
+kept_last n raw body came (stage.Lasting f) last = absurd (false≢true last)
+kept_last n raw body came (stage.Chunked f p) last = absurd (false≢true last)
+kept_last n raw body came (stage.Whole f total chunked) last = tt
+kept_last n raw body came (stage.Bad reason) last = tt
+kept_last n raw body came stage.NoMemory last = tt
+
+-- a reader at its last stage stands for all bytes that come behind
+pub stands_more : (r : ReplyReading) (came more : List ℕ) → is_last r.stage ≡ true → is_starved r.stage ≡ false → Stands r came false
+    → Stands r (came ++ more) false
+stands_more r came more last well st = record {
+  verdict = st.verdict;
+  is = reply_stays r.need came more st.verdict (last_final r.need r.bytes r.content r.stage st.verdict last well st.says) st.is;
+  says = st.says;
+  kept = kept_last r.need r.bytes r.content (came ++ more) r.stage last;
+}

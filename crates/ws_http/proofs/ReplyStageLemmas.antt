@@ -19,8 +19,8 @@ use Rattle.ws_http.specs.declared.reply_stage.ReplyStage.TheVariants as stage
 use Rattle.ws_http.specs.Chunks.{After, LineNext, chunk_data}
 use Rattle.ws_http.specs.ResponseFields.{kept_of, reply_of}
 use Rattle.ws_http.specs.Responses.{Verdict, unfinished, headed, lasting, whole, bad, Front, partial, wrong, final, IsFront, FrontSays, FinalSays, BodySays, ChunksEnd, fixed_verdict, is_over, raw_limit, Behind, IsResponse}
-use Rattle.ws_http.specs.ResponseStages.{room_of, is_status, is_chunked, front, extent_by, HasInterims, HasFinal, HasBegun, Reaches, Judged, Ready, is_last}
-use Rattle.ws_http.specs.ResponseData.{StopsAt}
+use Rattle.ws_http.specs.ResponseStages.{room_of, is_status, is_chunked, front, quota_of, extent_by, HasInterims, HasFinal, HasBegun, Reaches, Judged, Ready, is_last}
+use Rattle.ws_http.specs.FlowEnds.{StopsAt}
 use Rattle.ws_http.specs.ResponseHeadsEnd.{IsHeadsEnd}
 use Rattle.ws_http.specs.declared.reply_head.HeadsEnd.TheVariants as heads
 use Rattle.ws_http.proofs.StageLemmas.{front_same, content_same, passed}
@@ -278,7 +278,7 @@ reply_kept need.Full h content = refl
 -- a verdict on a chunked body, whose first bytes are the window
 pub chunked_is : (n : Need) (bytes : List ℕ) (f : FinalHead) (h : ResponseHead) → is_status n ≡ false → HasFinal (front bytes) f h
     → extent_by h ≡ Some extent.Chunked → (kept w : List ℕ) → w ≡ take raw_limit (drop f.start bytes)
-    → (v : Verdict) (place size : ℕ) (heavy : Bool) (l : Line) (s : StopsAt n w kept place size heavy l)
+    → (v : Verdict) (place size : ℕ) (heavy : Bool) (l : Line) (s : StopsAt (quota_of n) w kept place size heavy l)
     → MatchBool heavy (v ≡ bad why.TooLong)
     ((k : Next) × LineNext (drop place w) l k × ChunksEnd n f.start h bytes s.read.read.chunks k v)
     → IsResponse n bytes v
@@ -287,8 +287,8 @@ chunked_is n bytes f h asks x ex kept w same v place size heavy l s says =
     let chunks = s.read.read.chunks in
     let here = subst (λ (t : List ℕ). HasFinal t f h) (sym (front_same (room_of n) (take (room_of n) bytes) bytes (room_least n) refl)) x in
     let counted : length (chunk_data chunks) ≡ size = sym (s.read.counted ∙ ap length s.read.read.content) in
-    let heavy_is : is_over (length (chunk_data chunks)) (length rest) l ≡ heavy =
-    ap (λ (k : ℕ). is_over k (length rest) l) counted ∙ s.over_is in
+    let heavy_is : is_over body_limit (length (chunk_data chunks)) (length rest) l ≡ heavy =
+    ap (λ (k : ℕ). is_over body_limit k (length rest) l) counted ∙ s.over_is in
     by_body n (take (room_of n) bytes) bytes f h (Some extent.Chunked) v refl here asks ex record {
       chunks = chunks;
       rest = rest;

@@ -80,7 +80,7 @@ past_more limit start bytes more inside past =
 
 -- ---- a chunked body
 
-over_more : (before came more : ℕ) (l : Line) → came ≤ more → is_over before came l ≡ true → is_over before more l ≡ true
+over_more : (before came more : ℕ) (l : Line) → came ≤ more → is_over body_limit before came l ≡ true → is_over body_limit before more l ≡ true
 over_more before came more line.Open grows e = absurd (false≢true e)
 over_more before came more line.Never grows e = absurd (false≢true e)
 over_more before came more (line.Whole len size) grows e =
@@ -88,7 +88,7 @@ over_more before came more (line.Whole len size) grows e =
     let still : body_limit < before + min size (more - len) = omega (arith, past, grows) in
     grind (arith, nat_tests, still)
 
-line_kept : (x z : List ℕ) (l : Line) (before : ℕ) → is_over before (length x) l ≡ true → LineIs x l → LineIs (x ++ z) l
+line_kept : (x z : List ℕ) (l : Line) (before : ℕ) → is_over body_limit before (length x) l ≡ true → LineIs x l → LineIs (x ++ z) l
 line_kept x z line.Open before e is = absurd (false≢true e)
 line_kept x z line.Never before e is = absurd (false≢true e)
 line_kept x z (line.Whole len size) before e is = line_more x z len size is
@@ -100,8 +100,8 @@ data_came x len size k true t last m = let none : size ≡ 0 = grind (arith, nat
 data_came x len size k false t last m =
     omega (arith, end_inside (drop size (drop len x)) len size k last m, length-drop size (drop len x), length-drop len x)
 
-light_more : (x z : List ℕ) (l : Line) (k : Next) (before : ℕ) → IsLast k → LineIs x l → LineNext x l k → is_over before (length x) l ≡ false
-    → (LineIs (x ++ z) l × LineNext (x ++ z) l k) × (is_over before (length (x ++ z)) l ≡ false)
+light_more : (x z : List ℕ) (l : Line) (k : Next) (before : ℕ) → IsLast k → LineIs x l → LineNext x l k → is_over body_limit before (length x) l ≡ false
+    → (LineIs (x ++ z) l × LineNext (x ++ z) l k) × (is_over body_limit before (length (x ++ z)) l ≡ false)
 light_more x z line.Open k before last is m e = absurd (not_open k m last)
 light_more x z line.Never k before last is m e =
     ((λ more c rest reads. is (z ++ more) c rest (subst (λ (t : List ℕ). ReadsChunkLine t c rest) (append_assoc x z more) reads), m), refl)
@@ -125,7 +125,7 @@ module _ (n : Need) (start : ℕ) (h : ResponseHead) (bytes more : List ℕ) (v 
     split = window_more.1 ∙ ap (λ (t : List ℕ). t ++ window_more.0) q.after.split ∙ append_assoc (print_chunks q.chunks) q.rest window_more.0;
   }
 
-  heavy_stays : (q : ChunkedSays n start h bytes v) → is_over (length (chunk_data q.chunks)) (length q.rest) q.line ≡ true → v ≡ bad why.TooLong
+  heavy_stays : (q : ChunkedSays n start h bytes v) → is_over body_limit (length (chunk_data q.chunks)) (length q.rest) q.line ≡ true → v ≡ bad why.TooLong
       → ChunkedSays n start h (bytes ++ more) v
   heavy_stays q heavy e =
       let z = window_more.0 in
@@ -141,7 +141,7 @@ module _ (n : Need) (start : ℕ) (h : ResponseHead) (bytes more : List ℕ) (v 
             ((k : Next) × LineNext (q.rest ++ z) q.line k × ChunksEnd n start h (bytes ++ more) q.chunks k v)) (sym still) e;
       }
 
-  light_stays : (q : ChunkedSays n start h bytes v) (k : Next) → IsLast k → is_over (length (chunk_data q.chunks)) (length q.rest) q.line ≡ false
+  light_stays : (q : ChunkedSays n start h bytes v) (k : Next) → IsLast k → is_over body_limit (length (chunk_data q.chunks)) (length q.rest) q.line ≡ false
       → LineNext q.rest q.line k → ChunksEnd n start h (bytes ++ more) q.chunks k v → ChunkedSays n start h (bytes ++ more) v
   light_stays q k last light m ends =
       let z = window_more.0 in
@@ -157,7 +157,7 @@ module _ (n : Need) (start : ℕ) (h : ResponseHead) (bytes more : List ℕ) (v 
             ((j : Next) × LineNext (q.rest ++ z) q.line j × ChunksEnd n start h (bytes ++ more) q.chunks j v)) (sym w.1) (k, w.0.1, ends);
       }
 
-  full_stays : (q : ChunkedSays n start h bytes v) → is_over (length (chunk_data q.chunks)) (length q.rest) q.line ≡ false
+  full_stays : (q : ChunkedSays n start h bytes v) → is_over body_limit (length (chunk_data q.chunks)) (length q.rest) q.line ≡ false
       → LineNext q.rest q.line next.Open → ChunksEnd n start h bytes q.chunks next.Open v → ChunkedSays n start h (bytes ++ more) v
   full_stays q light m ends =
       let past = past_by v headed (nat_lt raw_limit (length (drop start bytes))) refl ends fin in
@@ -177,14 +177,14 @@ module _ (n : Need) (start : ℕ) (h : ResponseHead) (bytes more : List ℕ) (v 
             (next.Open, m, ends ∙ ap (λ (b : Bool). cond b (bad why.TooLong) headed) (past ∙ sym still));
       }
 
-  next_stays : (q : ChunkedSays n start h bytes v) (k : Next) → is_over (length (chunk_data q.chunks)) (length q.rest) q.line ≡ false
+  next_stays : (q : ChunkedSays n start h bytes v) (k : Next) → is_over body_limit (length (chunk_data q.chunks)) (length q.rest) q.line ≡ false
       → LineNext q.rest q.line k → ChunksEnd n start h bytes q.chunks k v → ChunkedSays n start h (bytes ++ more) v
   next_stays q next.Open light m ends = full_stays q light m ends
   next_stays q next.Wrong light m ends = light_stays q next.Wrong tt light m ends
   next_stays q (next.Chunk l s) light m ends = absurd ends
   next_stays q (next.Last used) light m ends = light_stays q (next.Last used) tt light m ends
 
-  says_stays : (q : ChunkedSays n start h bytes v) (b : Bool) → is_over (length (chunk_data q.chunks)) (length q.rest) q.line ≡ b
+  says_stays : (q : ChunkedSays n start h bytes v) (b : Bool) → is_over body_limit (length (chunk_data q.chunks)) (length q.rest) q.line ≡ b
       → MatchBool b (v ≡ bad why.TooLong) ((k : Next) × LineNext q.rest q.line k × ChunksEnd n start h bytes q.chunks k v)
       → ChunkedSays n start h (bytes ++ more) v
   says_stays q true t e = heavy_stays q t e
@@ -194,7 +194,7 @@ module _ (n : Need) (start : ℕ) (h : ResponseHead) (bytes more : List ℕ) (v 
   body_stays None e = e
   body_stays (Some (extent.Fixed m)) e =
       fixed_stays n start h m bytes more v (nat_lt body_limit m) (nat_le (start + m) (length bytes)) refl refl inside fin e
-  body_stays (Some extent.Chunked) q = says_stays q (is_over (length (chunk_data q.chunks)) (length q.rest) q.line) refl q.says
+  body_stays (Some extent.Chunked) q = says_stays q (is_over body_limit (length (chunk_data q.chunks)) (length q.rest) q.line) refl q.says
   body_stays (Some extent.Lasting) e =
       let past = past_by v (lasting (reply_of n h (drop start bytes))) (nat_lt body_limit (length (drop start bytes))) refl e fin in
       let still = past_more body_limit start bytes more inside past in

@@ -1,18 +1,18 @@
 -- What a stage of reading stands for, whatever came behind the bytes that are kept.
 use Rattle.std.proofs.Common.{◌≡◌, ℕ, ◌+◌, ◌-◌, ◌<◌, ◌≤◌, Bool, true, false, cond, List, [], ◌∷◌, ◌++◌, length, take, drop, refl, sym, ap, ◌∙◌, subst, arith, length-append, length-drop, length-take, drop-drop}
 use Rattle.std.specs.Prelude.{nat_lt, nat_le, min, ◌||◌}
+use Rattle.std.proofs.lemmas.Bool.{false≢true}
 use Rattle.std.proofs.lemmas.Bool.Decides.{nat_tests}
 use Rattle.std.proofs.lemmas.List.{take-take, drop-take}
 use Rattle.ws_http.specs.declared.fed.BadWhy.TheVariants as why
 use Rattle.ws_http.specs.declared.head.Framing.TheVariants as framing
 use Rattle.ws_http.specs.declared.head.Judged.{Judged}
 use Rattle.ws_http.specs.declared.head.Judged.TheVariants as judged
-use Rattle.ws_http.specs.declared.chunk.Next.{Next}
 use Rattle.ws_http.specs.declared.chunk.Next.TheVariants as next
 use Rattle.ws_http.specs.Heads.{Judges}
-use Rattle.ws_http.specs.Chunks.{After, Follows, chunk_data, print_chunks, print_chunk}
-use Rattle.ws_http.specs.Requests.{Verdict, headed, whole, bad, unfinished, fixed_verdict, Ends, IsRequest, HeadVerdict}
-use Rattle.ws_http.specs.RequestStages.{HasHead, HasChunks}
+use Rattle.ws_http.specs.Chunks.{HasChunks, After, Follows, chunk_data, print_chunks, print_chunk}
+use Rattle.ws_http.specs.Requests.{Verdict, headed, whole, bad, unfinished, fixed_verdict, IsRequest, HeadVerdict}
+use Rattle.ws_http.specs.RequestStages.{HasHead}
 use Rattle.ws_http.proofs.ChunkLemmas.{chunk_found, chunk_reads, after_more, print_more, data_more}
 
 -- the front of what is kept is that of all
@@ -27,31 +27,6 @@ by_front room raw bytes j v least e is says = record {
   judges = subst (λ (t : List ℕ). Judges t j) (front_same room raw bytes least e) is;
   says = says;
 }
-
-module _ (room head at : ℕ) (raw body : List ℕ) (least : 16384 ≤ room) (is : HasHead raw head framing.Chunked)
-    (k : HasChunks raw body head at) where
-  chunks_end : (n : Next) (v : Verdict) → Follows (drop at raw) n → (bytes : List ℕ) → take room bytes ≡ raw
-      → Ends room head bytes k.chunks n v → IsRequest room bytes v
-  chunks_end n v f bytes e ends = by_front room raw bytes (judged.Head head framing.Chunked) v least e is record {
-    chunks = k.chunks;
-    rest = drop at raw;
-    next = n;
-    after = subst (λ (t : List ℕ). After (drop head t) k.chunks (drop at raw)) (sym e) k.after;
-    follows = f;
-    ends = ends;
-  }
-
-  pub stands_open : (over : Bool) → Follows (drop at raw) next.Open → (bytes : List ℕ) → take room bytes ≡ raw
-      → nat_lt room (length bytes) ≡ over → IsRequest room bytes (cond over (bad why.TooLong true) headed)
-  stands_open over f bytes e t =
-      chunks_end next.Open (cond over (bad why.TooLong true) headed) f bytes e (sym (ap (λ (b : Bool). cond b (bad why.TooLong true) headed) t))
-
-  pub stands_wrong : Follows (drop at raw) next.Wrong → (bytes : List ℕ) → take room bytes ≡ raw → IsRequest room bytes (bad why.Chunk true)
-  stands_wrong f bytes e = chunks_end next.Wrong (bad why.Chunk true) f bytes e refl
-
-  pub stands_last : (used : ℕ) → Follows (drop at raw) (next.Last used) → (bytes : List ℕ) → take room bytes ≡ raw
-      → IsRequest room bytes (whole (at + used) body)
-  stands_last used f bytes e = chunks_end (next.Last used) (whole (at + used) body) f bytes e (λ i. whole (k.place i + used) (k.content i))
 
 -- one chunk more
 pub chunks_go_on : (head at line size : ℕ) (raw body : List ℕ) → HasChunks raw body head at
@@ -93,6 +68,10 @@ or_true false = refl
 pub or_false : (b : Bool) → b || false ≡ b
 or_false true = refl
 or_false false = refl
+
+pub either_not : (a b : Bool) → (a || b) ≡ false → a ≡ false
+either_not true b e = absurd (false≢true (sym e))
+either_not false b e = refl
 
 passed_by : (room came kept : ℕ) (b : Bool) → nat_lt room came ≡ b → 16384 ≤ room → kept ≡ min room came
     → nat_lt 16384 came ≡ (nat_lt 16384 kept || b)

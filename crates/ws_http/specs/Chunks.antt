@@ -39,6 +39,15 @@ pub record After (bytes : List ℕ) (chunks : List Chunk) (rest : List ℕ) : Ty
   pub each : AllByRecursion IsChunk chunks
   pub split : bytes ≡ print_chunks chunks ++ rest
 
+-- whole chunks stand behind a front of so many bytes, up to a place
+pub record HasChunks (raw body : List ℕ) (head at : ℕ) : Type 0 where
+  pub chunks : List Chunk
+  pub after : After (drop head raw) chunks (drop at raw)
+  pub place : at ≡ head + length (print_chunks chunks)
+  pub content : body ≡ chunk_data chunks
+  pub inside : at ≤ length raw
+  pub small : length body ≤ at
+
 -- What stands behind the data of a chunk: CRLF, the begin of one, or what can't become one.
 abbrev pub end_next : ℕ → ℕ → List ℕ → Next
 end_next line size [] = next.Open

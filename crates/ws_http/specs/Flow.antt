@@ -1,14 +1,12 @@
--- A chunked body of a response whose data goes where it is kept as it comes: what is held back of its bytes.
+-- A chunked body whose data goes where it is kept as it comes: what is held back of its bytes.
 use Rattle.std.specs.Prelude.{◌≡◌, ℕ, ◌+◌, ◌<◌, ◌≤◌, List, [], ◌++◌, length, drop}
-use Rattle.ws_model.specs.Legal.{body_limit}
-use Rattle.ws_http.specs.declared.fed.Need.{Need}
 use Rattle.ws_http.specs.declared.chunk.Line.TheVariants as line
 use Rattle.ws_http.specs.declared.chunk.Next.TheVariants as next
 use Rattle.ws_http.specs.declared.flow.Place.{Place}
 use Rattle.ws_http.specs.declared.flow.Place.TheVariants as place
 use Rattle.ws_http.specs.declared.flow.Point.{Point}
-use Rattle.ws_http.specs.Chunks.{LineIs, end_next}
-use Rattle.ws_http.specs.RequestStages.{HasChunks}
+use Rattle.ws_http.specs.declared.flow.Quota.{Quota}
+use Rattle.ws_http.specs.Chunks.{HasChunks, LineIs, end_next}
 use Rattle.ws_http.specs.ResponseFields.{kept_of}
 
 -- where no byte came
@@ -42,14 +40,14 @@ IsHeld rest held more place.Line = AtLine rest held more
 IsHeld rest held more (place.Data left) = InData rest held more left
 
 -- The bytes of a chunked body that came are whole chunks, and a rest whose bytes are held back but for its data.
--- Of all data the part that is asked for is kept.
-pub record Flows (need : Need) (came held body : List ℕ) (p : Point) : Type 0 where
+-- Of all data, which is within its limit, the part that is asked for is kept.
+pub record Flows (q : Quota) (came held body : List ℕ) (p : Point) : Type 0 where
   pub content : List ℕ
   pub more : List ℕ
   pub at : ℕ
   pub read : HasChunks came content 0 at
   pub behind : IsHeld (drop at came) held more p.place
-  pub kept : body ≡ kept_of need (content ++ more)
+  pub kept : body ≡ kept_of q.need (content ++ more)
   pub counted : p.size ≡ length (content ++ more)
-  pub small : p.size ≤ body_limit
+  pub small : p.size ≤ q.limit
   pub count : p.count ≡ length came

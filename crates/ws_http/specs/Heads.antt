@@ -1,5 +1,7 @@
 -- What the first bytes of a request say (RFC 9112, sections 2 to 6), by the grammar of the crate `httparse`.
-use Rattle.std.specs.Prelude.{◌≡◌, ℕ, ◌≤◌, true, false, List, length, Some, None}
+use Rattle.httparse.specs.Ascii.{crlf_bytes}
+use Rattle.memchr.specs.Find.{FindsNeedle}
+use Rattle.std.specs.Prelude.{◌≡◌, ℕ, ◌+◌, ◌≤◌, true, false, List, ◌++◌, length, Option, Some, None}
 use Rattle.httparse.specs.declared.spans.HeaderSpan.{HeaderSpan}
 use Rattle.httparse.specs.Grammar.{RequestHead, print_request, ReadsRequest, HasNoRequest, MayBecomeRequest, NeverHasRequest}
 use Rattle.httparse.specs.Spans.{IsRequestWithin, IsRequestOf}
@@ -42,3 +44,12 @@ Judges front (judged.Bad why.Chunk) = ⊥
 Judges front (judged.Bad why.Cut) = ⊥
 Judges front (judged.Head len framing) =
     (h : RequestHead) × IsSound front h framing × (len ≡ length (print_request h)) × (len ≤ length front)
+
+-- up to the first empty line, as CRLF CRLF, or all of so many bytes
+abbrev pub end_of : ℕ → Option ℕ → ℕ
+end_of came None = came
+end_of came (Some at) = at + 4
+
+-- how many bytes stand up to the first empty line and with it, or all
+abbrev pub EndsAt : List ℕ → ℕ → Type 0
+EndsAt bytes n = (at : Option ℕ) × FindsNeedle bytes (crlf_bytes ++ crlf_bytes) 0 at × (n ≡ end_of (length bytes) at)

@@ -2,15 +2,15 @@ pub mod Texts
 pub mod Fields
 pub mod Heads
 pub mod Chunks
+pub mod Flow
 pub mod Requests
 pub mod RequestStages
 pub mod Pieces
 pub mod ResponseFields
 pub mod Responses
+pub mod FlowEnds
 pub mod ResponseHeads
-pub mod Flow
 pub mod ResponseStages
-pub mod ResponseData
 pub mod ResponseHeadsEnd
 pub mod ReplyPieces
 pub mod ReadBack

@@ -13,7 +13,7 @@ use Rattle.ws_http.specs.declared.reply_head.FinalHead.{FinalHead}
 use Rattle.ws_http.specs.declared.reply_stage.ReplyStage.{ReplyStage}
 use Rattle.ws_http.specs.declared.reply_stage.ReplyStage.TheVariants as stage
 use Rattle.ws_http.specs.declared.flow.Point.{Point}
-use Rattle.ws_http.specs.RequestStages.{HasChunks}
+use Rattle.ws_http.specs.declared.flow.Quota.{Quota}
 use Rattle.ws_http.specs.Flow.{Flows}
 use Rattle.ws_http.specs.Fields.{fields_of}
 use Rattle.ws_http.specs.ResponseFields.{response_extent, reply_of, kept_of}
@@ -57,14 +57,6 @@ pub record HasFinal (front : List ℕ) (f : FinalHead) (h : ResponseHead) : Type
 abbrev pub front : List ℕ → List ℕ
 front raw = take 16384 raw
 
--- whole chunks stand in the bytes up to a place, with so much data, of which the part that is asked for is kept
-pub record HasData (need : Need) (bytes body : List ℕ) (place size : ℕ) : Type 0 where
-  pub content : List ℕ
-  pub read : HasChunks bytes content 0 place
-  pub kept : body ≡ kept_of need content
-  pub counted : size ≡ length content
-  pub small : length content ≤ body_limit
-
 -- the response's final head, which says how long the body is
 abbrev pub extent_by : ResponseHead → Option Extent
 extent_by h = response_extent (status_code h) (fields_of h.fields)
@@ -78,6 +70,10 @@ pub record Unled (raw : List ℕ) (at : ℕ) : Type 0 where
   pub none : HasNoResponse (drop at (front raw))
   pub short : length raw ≤ 16384
 
+-- of a chunked body the part that is asked for is kept, and it has a limit
+abbrev pub quota_of : Need → Quota
+quota_of need = record { need = need; limit = body_limit }
+
 -- The bytes that came are the heads and a chunked body. The heads are kept, and of the body what is held back.
 pub record Chunking (need : Need) (raw body : List ℕ) (f : FinalHead) (p : Point) (came : List ℕ) : Type 0 where
   pub head : ResponseHead
@@ -86,7 +82,7 @@ pub record Chunking (need : Need) (raw body : List ℕ) (f : FinalHead) (p : Poi
   pub asks : is_status need ≡ false
   pub heads : take f.start raw ≡ take f.start came
   pub inside : f.start ≤ length raw
-  pub flows : Flows need (drop f.start came) (drop f.start raw) body p
+  pub flows : Flows (quota_of need) (drop f.start came) (drop f.start raw) body p
   pub limit : p.count ≤ raw_limit
 
 -- what a stage says of the bytes is so

@@ -85,11 +85,11 @@ abbrev pub lasting_verdict : Need → ℕ → ResponseHead → List ℕ → Verd
 lasting_verdict need start h bytes =
     if nat_lt body_limit (length (drop start bytes)) then bad why.TooLong else lasting (reply_of need h (drop start bytes))
 
--- Behind so many bytes of data, the data of the chunk that begins the rest passes the limit, as far as it came.
-abbrev pub is_over : ℕ → ℕ → Line → Bool
-is_over before came line.Open = false
-is_over before came line.Never = false
-is_over before came (line.Whole len size) = nat_lt body_limit (before + min size (came - len))
+-- Behind so many bytes of data, the data of the chunk that begins the rest passes a limit, as far as it came.
+abbrev pub is_over : ℕ → ℕ → ℕ → Line → Bool
+is_over limit before came line.Open = false
+is_over limit before came line.Never = false
+is_over limit before came (line.Whole len size) = nat_lt limit (before + min size (came - len))
 
 -- what stands behind the whole chunks; the first raw byte past the limit is a fault
 abbrev pub ChunksEnd : Need → ℕ → ResponseHead → List ℕ → List Chunk → Next → Verdict → Type 0
@@ -108,7 +108,7 @@ pub record ChunkedSays (need : Need) (start : ℕ) (h : ResponseHead) (bytes : L
   pub after : After (take raw_limit (drop start bytes)) chunks rest
   pub small : length (chunk_data chunks) ≤ body_limit
   pub is : LineIs rest line
-  pub says : MatchBool (is_over (length (chunk_data chunks)) (length rest) line) (v ≡ bad why.TooLong)
+  pub says : MatchBool (is_over body_limit (length (chunk_data chunks)) (length rest) line) (v ≡ bad why.TooLong)
       ((n : Next) × LineNext rest line n × ChunksEnd need start h bytes chunks n v)
 
 -- a message by how long its body is

@@ -34,35 +34,6 @@ pub enum Section {
     Whole(usize),
 }
 
-/// What stands at the front of the bytes, where a chunk should begin.
-#[tactic(auto, unfolding(crate::specs::Chunks::Follows))]
-pub fn next_chunk(rest: &[u8]) -> Next
-    ensures follows { Follows rest.now result }
-    ensures within { NextWithin (length rest.now) result }
-{
-    behind_line(rest, read_line(rest))
-}
-
-/// What stands at the front of the bytes, by the chunk line there.
-pub fn behind_line(rest: &[u8], line: Line) -> Next
-    requires { LineIs rest.now line }
-    ensures follows { LineNext rest.now line result }
-    ensures within { NextWithin (length rest.now) result }
-{
-    match line {
-        Line::Open => Next::Open,
-        Line::Never => Next::Wrong,
-        Line::Whole(len, size) => {
-            let (_, after) = rest.split_at(len);
-            if size == 0 {
-                trailer(len, after)
-            } else {
-                chunk(len, size, after)
-            }
-        }
-    }
-}
-
 /// The chunk line at the front of the bytes.
 pub fn read_line(rest: &[u8]) -> Line
     ensures { LineIs rest.now result }
@@ -94,18 +65,6 @@ pub fn line_end(line: usize, size: usize, behind: &[u8]) -> Next
                 Next::Wrong
             }
         }
-    }
-}
-
-// The chunk whose line was read: its data and CRLF.
-fn chunk(line: usize, size: usize, after: &[u8]) -> Next
-    requires { line + length after.now < 2 ^ 63 }
-    ensures value { result ≡ end_next line size (drop size after.now) }
-    ensures within { NextWithin (line + length after.now) result }
-{
-    match after.get(size..) {
-        None => Next::Open,
-        Some(behind) => line_end(line, size, behind),
     }
 }
 

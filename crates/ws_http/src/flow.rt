@@ -1,19 +1,18 @@
-// A chunked body of a response as it comes: the data of a chunk goes from the piece straight to where it is kept.
+// A chunked body as it comes: the data of a chunk goes from the piece straight to where it is kept.
 // Behind the heads only what is still open is held back: a chunk line, a trailer section with the last chunk's
 // line, or the CR behind a chunk's data.
 ghost use Rattle.std.specs.Prelude.{◌≡◌, ◌≤◌, ◌<◌, ◌^◌, ◌+◌, ℕ, List, ◌++◌, length, take, drop, true, false};
 ghost use Rattle.std.specs.Vec.{vec_capacity};
-ghost use Rattle.ws_http.specs.declared.fed.Need.{Need};
+ghost use Rattle.ws_http.specs.declared.flow.Quota.{Quota};
 ghost use Rattle.ws_http.specs.declared.chunk.Line.TheVariants as line;
 ghost use Rattle.ws_http.specs.declared.flow.Place.TheVariants as place;
 ghost use Rattle.ws_http.specs.Chunks.{LineIs};
 ghost use Rattle.ws_http.specs.Flow.{Flows, begin};
-ghost use Rattle.ws_http.specs.ResponseStages.{is_full};
-ghost use Rattle.ws_http.specs.ResponseData.{IsDataEnd, IsStep, Advances, IsShort};
+ghost use Rattle.ws_http.specs.FlowEnds.{IsDataEnd, IsStep, Advances, IsShort, HasMemory, lacks_memory, most_of};
 
 use crate::Need;
 use crate::chunk::{Line, Next, line_end, read_line, trailer};
-use crate::reply_data::{BODY_LIMIT, grow, kept_part};
+use crate::reply_data::{grow, kept_part};
 use memchr::memchr;
 use ws_model::NoMemory;
 
@@ -47,6 +46,13 @@ impl Point {
             size: 0,
         }
     }
+}
+
+/// Which part of the data is kept, and how many bytes of data there may be.
+#[derive(Clone, Copy)]
+pub struct Quota {
+    pub need: Need,
+    pub limit: usize,
 }
 
 /// Where the reading of a chunked body stops.
@@ -97,9 +103,9 @@ fn read_trailer(raw: &mut Vec<u8>, start: usize, len: usize, more: &[u8], point:
     requires line { LineIs (drop start raw.old.items) (line.Whole len 0) }
     requires held { length (drop start raw.old.items) ≤ point.count }
     requires large { point.count + length more.now < 2 ^ 32 }
-    ensures ends { (need : Need) (came body : List ℕ) → (is_full need ≡ false → length raw.old.items + length more.now ≤ vec_capacity raw.old)
-        → Flows need came (drop start raw.old.items) body point
-        → IsDataEnd need (came ++ more.now) (drop start raw.new.items) body result }
+    ensures ends { (quota : Quota) (came body : List ℕ) → Flows quota came (drop start raw.old.items) body point
+        → IsDataEnd quota (came ++ more.now) (drop start raw.new.items) body result }
+    ensures memory { length raw.old.items + length more.now ≤ vec_capacity raw.old → lacks_memory result ≡ false }
     ensures heads { take start raw.new.items ≡ take start raw.old.items }
     ensures inside { start ≤ length raw.new.items }
     ensures short { length raw.new.items ≤ length raw.old.items + length more.now }
@@ -127,11 +133,11 @@ fn read_trailer(raw: &mut Vec<u8>, start: usize, len: usize, more: &[u8], point:
 fn read_on_line(raw: &mut Vec<u8>, start: usize, piece: &[u8], point: Point) -> Step
     requires inside { start ≤ length raw.old.items }
     requires at_line { point.place ≡ place.Line }
-    requires live { (need : Need) × (came : List ℕ) × (body : List ℕ) × Flows need came (drop start raw.old.items) body point }
+    requires live { (quota : Quota) × (came : List ℕ) × (body : List ℕ) × Flows quota came (drop start raw.old.items) body point }
     requires large { point.count + length piece.now < 2 ^ 32 }
-    ensures steps { (need : Need) (came body : List ℕ) → (is_full need ≡ false → length raw.old.items + length piece.now ≤ vec_capacity raw.old)
-        → Flows need came (drop start raw.old.items) body point
-        → IsStep need came piece.now (drop start raw.new.items) body result }
+    ensures steps { (quota : Quota) (came body : List ℕ) → Flows quota came (drop start raw.old.items) body point
+        → IsStep quota came piece.now (drop start raw.new.items) body result }
+    ensures memory { length raw.old.items + length piece.now ≤ vec_capacity raw.old → HasMemory result }
     ensures advances { Advances piece.now point result }
     ensures heads { take start raw.new.items ≡ take start raw.old.items }
     ensures inside { start ≤ length raw.new.items }
@@ -167,13 +173,13 @@ fn read_on_line(raw: &mut Vec<u8>, start: usize, piece: &[u8], point: Point) -> 
 }
 
 // The data of a chunk of which so many bytes are missing.
-fn read_on_data(body: &mut Vec<u8>, need: Need, piece: &[u8], point: Point, left: usize) -> Step
+fn read_on_data(body: &mut Vec<u8>, quota: Quota, piece: &[u8], point: Point, left: usize) -> Step
     requires at_data { point.place ≡ place.Data left }
     requires some { 0 < left }
-    requires live { (came : List ℕ) × (held : List ℕ) × Flows need came held body.old.items point }
-    requires fits { is_full need ≡ false → 41 ≤ vec_capacity body.old }
+    requires live { (came : List ℕ) × (held : List ℕ) × Flows quota came held body.old.items point }
     requires large { point.count + length piece.now < 2 ^ 32 }
-    ensures steps { (came held : List ℕ) → Flows need came held body.old.items point → IsStep need came piece.now held body.new.items result }
+    ensures steps { (came held : List ℕ) → Flows quota came held body.old.items point → IsStep quota came piece.now held body.new.items result }
+    ensures memory { most_of quota.need quota.limit ≤ vec_capacity body.old → HasMemory result }
     ensures advances { Advances piece.now point result }
     ensures capacity { vec_capacity body.old ≤ vec_capacity body.new }
 {
@@ -183,11 +189,11 @@ fn read_on_data(body: &mut Vec<u8>, need: Need, piece: &[u8], point: Point, left
     let (data, _) = piece.split_at(left.min(piece.len()));
     let used = data.len();
     let size = point.size + used;
-    if size > BODY_LIMIT {
+    if size > quota.limit {
         return Step::Stop(DataEnd::Over);
     }
     let before = body.len();
-    if let Err(NoMemory) = grow(body, kept_part(need, before, data)) {
+    if let Err(NoMemory) = grow(body, kept_part(quota.need, before, data)) {
         return Step::Stop(DataEnd::NoMemory);
     }
     let inner = Point {
@@ -202,11 +208,11 @@ fn read_on_data(body: &mut Vec<u8>, need: Need, piece: &[u8], point: Point, left
 fn read_on_end(raw: &mut Vec<u8>, start: usize, piece: &[u8], point: Point) -> Step
     requires inside { start ≤ length raw.old.items }
     requires at_data { point.place ≡ place.Data 0 }
-    requires live { (need : Need) × (came : List ℕ) × (body : List ℕ) × Flows need came (drop start raw.old.items) body point }
+    requires live { (quota : Quota) × (came : List ℕ) × (body : List ℕ) × Flows quota came (drop start raw.old.items) body point }
     requires large { point.count + length piece.now < 2 ^ 32 }
-    ensures steps { (need : Need) (came body : List ℕ) → (is_full need ≡ false → length raw.old.items + length piece.now ≤ vec_capacity raw.old)
-        → Flows need came (drop start raw.old.items) body point
-        → IsStep need came piece.now (drop start raw.new.items) body result }
+    ensures steps { (quota : Quota) (came body : List ℕ) → Flows quota came (drop start raw.old.items) body point
+        → IsStep quota came piece.now (drop start raw.new.items) body result }
+    ensures memory { length raw.old.items + length piece.now ≤ vec_capacity raw.old → HasMemory result }
     ensures advances { Advances piece.now point result }
     ensures heads { take start raw.new.items ≡ take start raw.old.items }
     ensures inside { start ≤ length raw.new.items }
@@ -244,17 +250,17 @@ fn read_on(
     raw: &mut Vec<u8>,
     start: usize,
     body: &mut Vec<u8>,
-    need: Need,
+    quota: Quota,
     piece: &[u8],
     point: Point,
 ) -> Step
     requires inside { start ≤ length raw.old.items }
-    requires live { (came : List ℕ) × Flows need came (drop start raw.old.items) body.old.items point }
-    requires room { is_full need ≡ false → length raw.old.items + length piece.now ≤ vec_capacity raw.old }
-    requires fits { is_full need ≡ false → 41 ≤ vec_capacity body.old }
+    requires live { (came : List ℕ) × Flows quota came (drop start raw.old.items) body.old.items point }
     requires large { point.count + length piece.now < 2 ^ 32 }
-    ensures steps { (came : List ℕ) → Flows need came (drop start raw.old.items) body.old.items point
-        → IsStep need came piece.now (drop start raw.new.items) body.new.items result }
+    ensures steps { (came : List ℕ) → Flows quota came (drop start raw.old.items) body.old.items point
+        → IsStep quota came piece.now (drop start raw.new.items) body.new.items result }
+    ensures memory { length raw.old.items + length piece.now ≤ vec_capacity raw.old
+        → most_of quota.need quota.limit ≤ vec_capacity body.old → HasMemory result }
     ensures advances { Advances piece.now point result }
     ensures heads { take start raw.new.items ≡ take start raw.old.items }
     ensures inside { start ≤ length raw.new.items }
@@ -265,7 +271,7 @@ fn read_on(
     match point.place {
         Place::Line => read_on_line(raw, start, piece, point),
         Place::Data(0) => read_on_end(raw, start, piece, point),
-        Place::Data(left) => read_on_data(body, need, piece, point, left),
+        Place::Data(left) => read_on_data(body, quota, piece, point, left),
     }
 }
 
@@ -274,17 +280,17 @@ pub fn read_data(
     raw: &mut Vec<u8>,
     start: usize,
     body: &mut Vec<u8>,
-    need: Need,
+    quota: Quota,
     piece: &[u8],
     from: Point,
 ) -> DataEnd
     requires inside { start ≤ length raw.old.items }
-    requires live { (came : List ℕ) × Flows need came (drop start raw.old.items) body.old.items from }
-    requires room { is_full need ≡ false → length raw.old.items + length piece.now ≤ vec_capacity raw.old }
-    requires fits { is_full need ≡ false → 41 ≤ vec_capacity body.old }
+    requires live { (came : List ℕ) × Flows quota came (drop start raw.old.items) body.old.items from }
     requires large { from.count + length piece.now < 2 ^ 32 }
-    ensures ends { (came : List ℕ) → Flows need came (drop start raw.old.items) body.old.items from
-        → IsDataEnd need (came ++ piece.now) (drop start raw.new.items) body.new.items result }
+    ensures ends { (came : List ℕ) → Flows quota came (drop start raw.old.items) body.old.items from
+        → IsDataEnd quota (came ++ piece.now) (drop start raw.new.items) body.new.items result }
+    ensures memory { length raw.old.items + length piece.now ≤ vec_capacity raw.old
+        → most_of quota.need quota.limit ≤ vec_capacity body.old → lacks_memory result ≡ false }
     ensures heads { take start raw.new.items ≡ take start raw.old.items }
     ensures inside { start ≤ length raw.new.items }
     ensures short { length raw.new.items ≤ length raw.old.items + length piece.now }
@@ -295,7 +301,7 @@ pub fn read_data(
     let mut at: usize = 0;
     'pieces: loop {
         let (_, rest) = piece.split_at(at);
-        match read_on(raw, start, body, need, rest, point) {
+        match read_on(raw, start, body, quota, rest, point) {
             Step::Stop(end) => return end,
             Step::On(next, used) => {
                 point = next;

@@ -3,11 +3,12 @@ ghost use Rattle.std.specs.Prelude.{◌≡◌, ◌≤◌, ◌<◌, ◌^◌, All,
 ghost use Rattle.std.specs.Option.{option_copied};
 ghost use Rattle.httparse.specs.Spans.{header_bytes, IsHeaderWithin, IsRequestWithin};
 ghost use Rattle.ws_http.specs.Fields.{is_named, is_other_value, how_many, first_value, all_are, length_value, declared_length, request_framing, has_host};
-ghost use Rattle.ws_http.specs.Heads.{Sees, Judges};
+ghost use Rattle.ws_http.specs.Heads.{Sees, Judges, EndsAt};
 
 use crate::BadWhy;
 use httparse::spans::{HeaderSpan, RequestSpans, parse_request};
 use httparse::{Error, Status};
+use memchr::memmem;
 
 /// The most bytes that a head has.
 pub const MAX_HEAD: usize = 16_384;
@@ -48,6 +49,17 @@ pub fn front_of(bytes: &[u8]) -> &[u8]
         &bytes[..MAX_HEAD]
     } else {
         bytes
+    }
+}
+
+/// How many bytes stand up to the first empty line and with it, or all. A head ends there, or goes on from there.
+pub fn head_end(piece: &[u8]) -> usize
+    ensures ends { EndsAt piece.now result }
+    ensures most { result ≤ length piece.now }
+{
+    match memmem::find(piece, b"\r\n\r\n") {
+        Some(at) => at + 4,
+        None => piece.len(),
     }
 }
 

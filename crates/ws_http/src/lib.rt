@@ -16,6 +16,8 @@ mod reply_head;
 mod reply_stage;
 mod reply_tail;
 mod request;
+mod request_chunks;
+mod request_next;
 mod response;
 mod stage;
 mod write;

@@ -5,8 +5,8 @@ ghost use Rattle.httparse.specs.Grammar.{ResponseHead};
 ghost use Rattle.ws_http.specs.declared.extent.Extent.TheVariants as extent;
 ghost use Rattle.ws_http.specs.ResponseStages.{Ready, Small, Chunking, apart_from, Stands, HasFinal, extent_by, front, room_of, is_full, is_status, is_starved};
 
-use crate::flow::{DataEnd, Point, read_data};
-use crate::reply_data::first;
+use crate::flow::{DataEnd, Point, Quota, read_data};
+use crate::reply_data::{BODY_LIMIT, first};
 use crate::reply_head::FinalHead;
 use crate::reply_stage::{RAW_LIMIT, ReplyStage};
 use crate::{BadWhy, Need};
@@ -33,7 +33,11 @@ pub fn take_chunks(
     ensures body_capacity { vec_capacity body.old ≤ vec_capacity body.new }
 {
     let part = first(piece, RAW_LIMIT - point.count);
-    match read_data(raw, head.start, body, need, part, point) {
+    let quota = Quota {
+        need,
+        limit: BODY_LIMIT,
+    };
+    match read_data(raw, head.start, body, quota, part, point) {
         DataEnd::Open(point) => {
             if part.len() < piece.len() {
                 ReplyStage::Bad(BadWhy::TooLong)

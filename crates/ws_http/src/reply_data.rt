@@ -1,13 +1,9 @@
 // The part of a body of a response that is kept.
 ghost use Rattle.std.specs.Prelude.{◌≡◌, ◌≤◌, ◌<◌, ◌^◌, ◌+◌, ◌++◌, length, take, true, false, IsOk, OnOk, OnErr, vec_len};
 ghost use Rattle.std.specs.Vec.{vec_capacity};
-ghost use Rattle.ws_model.specs.Legal.{body_limit};
-ghost use Rattle.ws_http.specs.Responses.{is_over};
-ghost use Rattle.ws_http.specs.ResponseStages.{HasData, is_full};
-ghost use Rattle.ws_http.specs.ResponseData.{IsDataEnd, more_of};
+ghost use Rattle.ws_http.specs.FlowEnds.{more_of};
 
 use crate::Need;
-use crate::chunk::{Line, Next, behind_line, read_line};
 use ws_model::NoMemory;
 
 /// The most bytes of a body.

@@ -170,6 +170,18 @@ pub fn read_front(raw: &[u8], need: Need, over: bool, at: usize) -> ReplyStage
     }
 }
 
+/// Whether the stage is the last one.
+pub fn is_last(stage: ReplyStage) -> bool
+    ensures { result ≡ is_last stage }
+{
+    match stage {
+        ReplyStage::Whole(..) => true,
+        ReplyStage::Bad(..) => true,
+        ReplyStage::NoMemory => true,
+        _ => false,
+    }
+}
+
 // The stage once the connection has ended behind so many bytes.
 fn at_end(came: usize, stage: ReplyStage) -> ReplyStage
     ensures { result ≡ stage_at_end came stage }

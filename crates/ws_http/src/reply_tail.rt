@@ -5,9 +5,12 @@ ghost use Rattle.ws_http.specs.declared.reply_stage.ReplyStage.TheVariants as st
 ghost use Rattle.ws_http.specs.ResponseStages.{Ready, Small, Judged, IsSplit, Stands, count_of, is_apart, apart_from, room_of, is_full, is_last, is_chunked, is_starved};
 
 use crate::Need;
+use crate::head::head_end;
 use crate::reply_chunks::{begin_chunks, take_chunks};
 use crate::reply_data::grow;
-use crate::reply_stage::{ReplyStage, is_full, read_fixed, read_front, read_lasting, room_of};
+use crate::reply_stage::{
+    ReplyStage, is_full, is_last, read_fixed, read_front, read_lasting, room_of,
+};
 use ws_model::NoMemory;
 
 /// How many bytes came up to this stage.
@@ -177,8 +180,8 @@ fn take_piece(
     }
 }
 
-/// Takes the next piece of the bytes, and reads on.
-pub fn take_next(
+// Takes a part of a piece, and reads on.
+fn take_part(
     raw: &mut Vec<u8>,
     tail: &mut Vec<u8>,
     body: &mut Vec<u8>,
@@ -210,4 +213,69 @@ pub fn take_next(
     }
     let new = take_piece(raw, body, need, piece, from);
     part(raw, tail, need, new)
+}
+
+// Takes the next piece where the final head isn't whole. What stands up to the first empty line comes first, so that of a
+// body behind a head that ends there nothing is kept with the heads.
+fn take_head(
+    raw: &mut Vec<u8>,
+    tail: &mut Vec<u8>,
+    body: &mut Vec<u8>,
+    need: Need,
+    piece: &[u8],
+    from: ReplyStage,
+) -> ReplyStage
+    requires short { length (raw.old.items ++ tail.old.items) ≤ room_of need }
+    requires kept { is_full need ≡ false → room_of need ≤ vec_capacity raw.old }
+    requires fits { is_full need ≡ false → 41 ≤ vec_capacity body.old }
+    requires open { is_last from ≡ false }
+    requires ready { Ready need (raw.old.items ++ tail.old.items) body.old.items from }
+    requires split { IsSplit need raw.old.items tail.old.items from }
+    ensures stands { is_starved result ≡ false → (came : List ℕ)
+        → Stands (record { need = need; bytes = raw.old.items ++ tail.old.items; content = body.old.items; stage = from }) came false
+        → Stands (record { need = need; bytes = raw.new.items ++ tail.new.items; content = body.new.items; stage = result }) (came ++ piece.now) false }
+    ensures ready { Ready need (raw.new.items ++ tail.new.items) body.new.items result }
+    ensures small { Small (raw.new.items ++ tail.new.items) body.new.items result }
+    ensures short { length (raw.new.items ++ tail.new.items) ≤ room_of need }
+    ensures split { IsSplit need raw.new.items tail.new.items result }
+    ensures raw_capacity { vec_capacity raw.old ≤ vec_capacity raw.new }
+    ensures body_capacity { vec_capacity body.old ≤ vec_capacity body.new }
+{
+    let (front, behind) = piece.split_at(head_end(piece));
+    let stage = take_part(raw, tail, body, need, front, from);
+    if behind.is_empty() || is_last(stage) {
+        return stage;
+    }
+    take_part(raw, tail, body, need, behind, stage)
+}
+
+/// Takes the next piece of the bytes, and reads on.
+pub fn take_next(
+    raw: &mut Vec<u8>,
+    tail: &mut Vec<u8>,
+    body: &mut Vec<u8>,
+    need: Need,
+    piece: &[u8],
+    from: ReplyStage,
+) -> ReplyStage
+    requires short { length (raw.old.items ++ tail.old.items) ≤ room_of need }
+    requires kept { is_full need ≡ false → room_of need ≤ vec_capacity raw.old }
+    requires fits { is_full need ≡ false → 41 ≤ vec_capacity body.old }
+    requires open { is_last from ≡ false }
+    requires ready { Ready need (raw.old.items ++ tail.old.items) body.old.items from }
+    requires split { IsSplit need raw.old.items tail.old.items from }
+    ensures stands { is_starved result ≡ false → (came : List ℕ)
+        → Stands (record { need = need; bytes = raw.old.items ++ tail.old.items; content = body.old.items; stage = from }) came false
+        → Stands (record { need = need; bytes = raw.new.items ++ tail.new.items; content = body.new.items; stage = result }) (came ++ piece.now) false }
+    ensures ready { Ready need (raw.new.items ++ tail.new.items) body.new.items result }
+    ensures small { Small (raw.new.items ++ tail.new.items) body.new.items result }
+    ensures short { length (raw.new.items ++ tail.new.items) ≤ room_of need }
+    ensures split { IsSplit need raw.new.items tail.new.items result }
+    ensures raw_capacity { vec_capacity raw.old ≤ vec_capacity raw.new }
+    ensures body_capacity { vec_capacity body.old ≤ vec_capacity body.new }
+{
+    match from {
+        ReplyStage::Head(_) => take_head(raw, tail, body, need, piece, from),
+        _ => take_part(raw, tail, body, need, piece, from),
+    }
 }

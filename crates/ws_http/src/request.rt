@@ -1,5 +1,5 @@
 // The reader of a request that comes in any pieces.
-ghost use Rattle.std.specs.Prelude.{◌≡◌, ◌≤◌, IfOk, ℕ, List, take, true};
+ghost use Rattle.std.specs.Prelude.{◌≡◌, ◌≤◌, IfOk, ℕ, List, [], take, true};
 ghost use Rattle.std.specs.Option.{option_copied};
 ghost use Rattle.httparse.specs.Grammar.{RequestHead, ReadsRequest};
 ghost use Rattle.ws_http.specs.Fields.{first_value, fields_of, expects_continue};
@@ -8,7 +8,8 @@ ghost use Rattle.ws_http.specs.Requests.{is_headed, IsWhole, Tells, whole};
 use crate::Fed;
 use crate::head::MAX_HEAD;
 use crate::parts::{expects_of, field_of, method_of, target_of};
-use crate::stage::{Stage, again, is_sound, keep, read_on, told};
+use crate::request_next::take_next;
+use crate::stage::{Stage, again, count_of, is_sound, told};
 use std::alloc::Global;
 use std::marker::Model;
 use ws_model::NoMemory;
@@ -19,7 +20,9 @@ use ws_model::NoMemory;
 /// the room.
 #[derive(Drop)]
 pub struct RequestReader {
+    /// The bytes that came; behind the head of a chunked body what is held back of it.
     raw: Vec<u8>,
+    /// The data of a chunked body.
     body: Vec<u8>,
     room: usize,
     stage: Stage,
@@ -38,11 +41,12 @@ impl Model for RequestReader {
 }
 
 impl RequestReader {
-    ghost use Rattle.ws_http.specs.RequestStages.{Reading, Feeds, fresh, verdict};
+    ghost use Rattle.ws_http.specs.RequestStages.{Reading, Feeds, Stands, fresh, verdict};
 
     /// A reader with a room of 16,384 bytes.
     pub fn made(alloc: Global) -> Result<RequestReader, NoMemory>
-        ensures { IfOk result (λ r. r ≡ fresh 16384) }
+        ensures fresh { IfOk result (λ r. r ≡ fresh 16384) }
+        ensures stands { IfOk result (λ r. Stands r []) }
     {
         RequestReader::made_for(alloc, 16_384)
     }
@@ -51,7 +55,8 @@ impl RequestReader {
     pub fn made_for(alloc: Global, room: u32) -> Result<RequestReader, NoMemory>
         requires least { 16384 ≤ room }
         requires most { room ≤ 4210688 }
-        ensures { IfOk result (λ r. r ≡ fresh room) }
+        ensures fresh { IfOk result (λ r. r ≡ fresh room) }
+        ensures stands { IfOk result (λ r. Stands r []) }
     {
         let room = room as usize;
         let raw = Vec::with_capacity(alloc, room)?;
@@ -74,11 +79,9 @@ impl RequestReader {
         if let Some(answer) = again(self.stage) {
             return answer;
         }
-        let before = self.raw.len();
+        let before = count_of(&self.raw, self.stage);
         let old = self.stage;
-        let (taken, left) = piece.split_at((self.room - before).min(piece.len()));
-        keep(&mut self.raw, taken);
-        self.stage = read_on(&self.raw, &mut self.body, self.room, !left.is_empty(), old);
+        self.stage = take_next(&mut self.raw, &mut self.body, self.room, piece, old);
         told(before, old, self.stage)
     }
 

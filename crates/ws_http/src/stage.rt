@@ -2,11 +2,10 @@
 ghost use Rattle.std.specs.Prelude.{◌≡◌, ◌≤◌, ◌<◌, ◌^◌, ◌+◌, length, drop, ◌++◌, [], ◌||◌, nat_lt, List, ℕ, MatchOption, vec_len, true, false};
 ghost use Rattle.std.specs.Vec.{vec_capacity};
 ghost use Rattle.ws_http.specs.Requests.{said, said_again, headed, is_headed, Tells};
-ghost use Rattle.ws_http.specs.RequestStages.{Ready, Stands, Closes, HasHead, HasChunks, is_last, verdict_of};
-ghost use Rattle.ws_http.specs.declared.head.Framing.TheVariants as framing;
+ghost use Rattle.ws_http.specs.RequestStages.{Ready, HoldsFor, Closes, HasBegun, is_chunked, is_last, count_of, verdict_of};
 ghost use Rattle.ws_http.specs.declared.stage.Stage.TheVariants as stage;
 
-use crate::chunk::{Next, next_chunk};
+use crate::flow::Point;
 use crate::head::{Framing, Judged, MAX_HEAD, front_of, judge};
 use crate::{BadWhy, Fed};
 
@@ -17,8 +16,8 @@ pub enum Stage {
     Head,
     /// The head's length, and that of the whole message.
     Fixed(usize, usize),
-    /// The head's length, and where the next chunk begins.
-    Chunked(usize, usize),
+    /// The head's length, and how far the chunks of the body have been read.
+    Chunked(usize, Point),
     /// The head's length, that of the whole message, and whether the body is chunked.
     Whole(usize, usize, bool),
     /// The fault, and whether the head is whole and sound.
@@ -37,53 +36,16 @@ pub fn keep(kept: &mut Vec<u8>, bytes: &[u8])
     }
 }
 
-/// Reads on over the chunks behind the head, from the place where the next one begins.
-pub fn read_chunks(
-    raw: &[u8],
-    body: &mut Vec<u8>,
-    room: usize,
-    over: bool,
-    head: usize,
-    from: usize,
-) -> Stage
-    requires short { length raw.now ≤ room }
-    requires fits { room ≤ vec_capacity body.old }
-    requires large { room < 2 ^ 32 }
-    requires least { MAX_HEAD ≤ room }
-    requires head { HasHead raw.now head framing.Chunked }
-    requires chunks { HasChunks raw.now body.old.items head from }
-    ensures stands { Stands room raw.now over body.new.items result }
-    ensures ready { Ready room raw.now body.new.items result }
-    ensures closes { Closes over result }
-    ensures capacity { vec_capacity body.old ≤ vec_capacity body.new }
-{
-    let mut at = from;
-    'chunks: loop {
-        let (_, rest) = raw.split_at(at);
-        match next_chunk(rest) {
-            Next::Open if over => return Stage::Bad(BadWhy::TooLong, true),
-            Next::Open => return Stage::Chunked(head, at),
-            Next::Wrong => return Stage::Bad(BadWhy::Chunk, true),
-            Next::Last(used) => return Stage::Whole(head, at + used, true),
-            Next::Chunk(line, size) => {
-                let (_, after) = rest.split_at(line);
-                let (content, _) = after.split_at(size);
-                keep(body, content);
-                at += line + size + 2;
-            }
-        }
-    }
-}
-
-// A message whose sound head declares this length.
-fn read_fixed(raw: &[u8], room: usize, over: bool, head: usize, total: usize) -> Stage
+/// A message whose sound head declares this length.
+pub fn read_fixed(raw: &[u8], room: usize, over: bool, head: usize, total: usize) -> Stage
     requires short { length raw.now ≤ room }
     requires least { MAX_HEAD ≤ room }
     requires full { over ≡ true → length raw.now ≡ room }
     requires ready { Ready room raw.now [] (stage.Fixed head total) }
-    ensures stands { (body : List ℕ) → Stands room raw.now over body result }
-    ensures ready { (body : List ℕ) → Ready room raw.now body result }
+    ensures holds { HoldsFor room raw.now over [] result }
+    ensures ready { Ready room raw.now [] result }
     ensures closes { Closes over result }
+    ensures plain { is_chunked result ≡ false }
 {
     if raw.len() >= total {
         Stage::Whole(head, total, false)
@@ -99,18 +61,16 @@ pub fn passes_head(raw: &[u8], over: bool) -> bool
     raw.len() > MAX_HEAD || over
 }
 
-// The bytes of a request, of which no head was whole before.
-fn read_head(raw: &[u8], body: &mut Vec<u8>, room: usize, over: bool) -> Stage
+/// The bytes of a request, of which no head was whole before. Of a chunked body no chunk is read yet.
+pub fn read_head(raw: &[u8], room: usize, over: bool) -> Stage
     requires short { length raw.now ≤ room }
-    requires fits { room ≤ vec_capacity body.old }
-    requires large { room < 2 ^ 32 }
     requires least { MAX_HEAD ≤ room }
+    requires most { room ≤ 4210688 }
     requires full { over ≡ true → length raw.now ≡ room }
-    requires empty { body.old.items ≡ [] }
-    ensures stands { Stands room raw.now over body.new.items result }
-    ensures ready { Ready room raw.now body.new.items result }
-    ensures closes { Closes over result }
-    ensures capacity { vec_capacity body.old ≤ vec_capacity body.new }
+    ensures holds { is_chunked result ≡ false → HoldsFor room raw.now over [] result }
+    ensures begun { HasBegun raw.now result }
+    ensures ready { is_chunked result ≡ false → Ready room raw.now [] result }
+    ensures closes { is_chunked result ≡ false → Closes over result }
 {
     match judge(front_of(raw)) {
         Judged::Open => {
@@ -121,7 +81,7 @@ fn read_head(raw: &[u8], body: &mut Vec<u8>, room: usize, over: bool) -> Stage
             }
         }
         Judged::Bad(why) => Stage::Bad(why, false),
-        Judged::Head(head, Framing::Chunked) => read_chunks(raw, body, room, over, head, head),
+        Judged::Head(head, Framing::Chunked) => Stage::Chunked(head, Point::begin()),
         Judged::Head(head, Framing::Fixed(length)) => {
             if length > (room - head) as u64 {
                 return Stage::Bad(BadWhy::TooLong, false);
@@ -131,26 +91,25 @@ fn read_head(raw: &[u8], body: &mut Vec<u8>, room: usize, over: bool) -> Stage
     }
 }
 
-/// Reads on over the bytes that have come, of which more than there is room for came or not.
-pub fn read_on(raw: &[u8], body: &mut Vec<u8>, room: usize, over: bool, from: Stage) -> Stage
-    requires short { length raw.now ≤ room }
-    requires fits { room ≤ vec_capacity body.old }
-    requires large { room < 2 ^ 32 }
-    requires least { MAX_HEAD ≤ room }
-    requires full { over ≡ true → length raw.now ≡ room }
-    requires open { is_last from ≡ false }
-    requires ready { Ready room raw.now body.old.items from }
-    ensures stands { Stands room raw.now over body.new.items result }
-    ensures ready { Ready room raw.now body.new.items result }
-    ensures closes { Closes over result }
-    ensures capacity { vec_capacity body.old ≤ vec_capacity body.new }
+/// Whether the stage is the last one.
+pub fn is_last(stage: Stage) -> bool
+    ensures { result ≡ is_last stage }
 {
-    match from {
-        Stage::Head => read_head(raw, body, room, over),
-        Stage::Fixed(head, total) => read_fixed(raw, room, over, head, total),
-        Stage::Chunked(head, at) => read_chunks(raw, body, room, over, head, at),
-        Stage::Whole(..) => unreachable!(),
-        Stage::Bad(..) => unreachable!(),
+    match stage {
+        Stage::Whole(..) => true,
+        Stage::Bad(..) => true,
+        _ => false,
+    }
+}
+
+/// How many bytes came up to a stage that isn't the last one.
+pub fn count_of(raw: &[u8], stage: Stage) -> usize
+    requires { count_of raw.now stage < 2 ^ 32 }
+    ensures { result ≡ count_of raw.now stage }
+{
+    match stage {
+        Stage::Chunked(head, point) => head + point.count,
+        _ => raw.len(),
     }
 }
 

@@ -97,6 +97,96 @@ fn chunked_request_body(rt: HostRuntime) -> Result<(), Fail> {
     Ok(())
 }
 
+// The body of a whole request that is fed in pieces of a size, or what its reader says at last.
+fn body_fed(
+    rt: &(impl Abort + AllocGlobal),
+    room: u32,
+    bytes: &[u8],
+    size: usize,
+) -> Result<Result<Vec<u8>, Fed>, Fail>
+    requires least { 16384 ≤ room }
+    requires most { room ≤ 4210688 }
+{
+    let mut reader = RequestReader::made_for(rt.alloc(), room)?;
+    let mut answer = Fed::More;
+    for piece in bytes.chunks(size.max(1)) {
+        answer = reader.feed(piece);
+        if let Fed::Whole { .. } = answer {
+            return Ok(Ok(reader.body().to_vec(rt.alloc())?));
+        }
+    }
+    Ok(Err(answer))
+}
+
+// Chunked requests with the data of their chunks, worked out by hand.
+#[test]
+fn chunked_bodies_in_any_pieces(rt: HostRuntime) -> Result<(), Fail> {
+    let table: [(&[u8], &[u8]); 4] = [
+        (
+            b"POST / HTTP/1.1\r\nHost: a\r\nTransfer-Encoding: chunked\r\n\r\n0\r\n\r\n",
+            b"",
+        ),
+        (
+            b"POST / HTTP/1.1\r\nHost: a\r\nTransfer-Encoding: chunked\r\n\r\n2\r\nab\r\n1;x\r\nc\r\n0\r\n\r\n",
+            b"abc",
+        ),
+        // data like the end of a line and like a last chunk
+        (
+            b"POST / HTTP/1.1\r\nHost: a\r\nTransfer-Encoding: chunked\r\n\r\n2\r\n\r\n\r\n5\r\n0\r\n\r\n\r\n0\r\n\r\n",
+            b"\r\n0\r\n\r\n",
+        ),
+        (
+            b"POST / HTTP/1.1\r\nHost: a\r\nTransfer-Encoding: chunked\r\n\r\nA;x=y\r\n0123456789\r\n00\r\nT: v\r\n\r\nzz",
+            b"0123456789",
+        ),
+    ];
+    for (bytes, body) in table.iter() {
+        for size in [1, 7, 64, 100_000] {
+            match body_fed(&rt, 16_384, bytes, size)? {
+                Ok(data) => assert_eq!(rt; data.as_slice(), *body, "{bytes:?} in pieces of {size}"),
+                Err(said) => assert_eq!(rt;
+                    said,
+                    Fed::Whole { used: 0 },
+                    "{bytes:?} in pieces of {size}"
+                ),
+            }
+        }
+    }
+    Ok(())
+}
+
+// A chunked message that fills its room with its head of 56 bytes, and one with one byte more.
+#[test]
+fn chunked_bodies_at_the_limit(rt: HostRuntime) -> Result<(), Fail> {
+    // 0x3fbb = 16,315, and the lines and ends of chunks are the other 13 bytes
+    let at = padded(
+        rt.alloc(),
+        b"POST / HTTP/1.1\r\nHost: a\r\nTransfer-Encoding: chunked\r\n\r\n3fbb\r\n",
+        16_377,
+        b"\r\n0\r\n\r\n",
+    )?;
+    let past = padded(
+        rt.alloc(),
+        b"POST / HTTP/1.1\r\nHost: a\r\nTransfer-Encoding: chunked\r\n\r\n3fbc\r\n",
+        16_378,
+        b"\r\n0\r\n\r\n",
+    )?;
+    for size in [1, 7, 100_000] {
+        match body_fed(&rt, 16_384, &at, size)? {
+            Ok(data) => {
+                assert_eq!(rt; data.len(), 16_315);
+                assert!(rt; data.as_slice().iter().all(|b| *b == b'x'));
+            }
+            Err(said) => assert_eq!(rt; said, Fed::Whole { used: 0 }),
+        }
+        match body_fed(&rt, 16_384, &past, size)? {
+            Ok(data) => assert_eq!(rt; data.len(), 0),
+            Err(said) => assert_eq!(rt; said, bad(BadWhy::TooLong)),
+        }
+    }
+    Ok(())
+}
+
 // Each request with its answer, worked out by hand (lengths counted by Python's len) from RFC 9112 and the limits.
 #[test]
 fn requests_in_any_pieces(rt: HostRuntime) -> Result<(), Fail> {

@@ -1,6 +1,6 @@
 -- The leases that are live, and those whose notices are owed, are told by the events that asked for and confirmed them.
 use Rattle.std.proofs.Common.{◌≡◌, ℕ, ◌≤◌, ◌<◌, Bool, true, false, cond, ◌&&◌, ◌||◌, List, [], ◌∷◌, ◌++◌, refl, ap, sym, ◌∙◌, subst, arith, inl, inr}
-use Rattle.std.specs.Prelude.{Option, Some, None, is_none, is_some, filter, find, map, ◌==◌}
+use Rattle.std.specs.Prelude.{Option, Some, None, is_none, is_some, filter, find, ◌==◌}
 use Rattle.std.specs.List.{AllByRecursion, list_any}
 use Rattle.std.specs.Option.{option_map}
 use Rattle.std.proofs.lemmas.Bool.{and_from, and_parts, eqb-true, false≢true, ltb-true, or_cases, or_left, or_right}
@@ -19,9 +19,9 @@ use Rattle.ws_model.specs.Legal.{Legal, is_allowed, is_on_one}
 use Rattle.ws_model.specs.Moment.{last_intent, last_time}
 use Rattle.ws_model.specs.Revocation.{is_lease_of, live_lease_of}
 use Rattle.ws_laws.proofs.Ended.{IsTold, both_true, leases_told}
-use Rattle.ws_laws.proofs.Follow.{any_of_filter, some_found}
-use Rattle.ws_laws.proofs.Known.{about_le, allowed, is_about, itself, leases_confirmed}
-use Rattle.ws_laws.proofs.ListLaws.{all_append, all_filter, all_filter_with, all_find, all_from, all_weaker, any_then, find-filter}
+use Rattle.ws_laws.proofs.Follow.{some_found}
+use Rattle.ws_laws.proofs.Known.{about_le, allowed, is_about, leases_confirmed}
+use Rattle.ws_laws.proofs.ListLaws.{all_append, all_filter_with, all_find, all_from, any_then, find-filter}
 use Rattle.ws_laws.proofs.Notices.{leases_asked}
 use Rattle.ws_laws.proofs.Paired.{found_kept, same_number}
 use Rattle.ws_laws.proofs.Topics.{bytes_same}
@@ -34,7 +34,7 @@ use Rattle.ws_core_tables.proofs.Confirmation.{pair_by_number}
 use Rattle.ws_tries.specs.Stands.{is_any_push}
 use Rattle.ws_kept.specs.Finding.{gives_lease, is_leased, is_noticed}
 use Rattle.ws_kept.specs.Stands.{light, log_of}
-use Rattle.ws_kept.proofs.Lists.{any_log, any_one, both_ways, each_any}
+use Rattle.ws_kept.proofs.Lists.{any_log, both_ways, each_any}
 
 has_more : (p q : What → Bool) → ((w : What) → p w ≡ true → q w ≡ true) → (h : List Event) → has p h ≡ true → has q h ≡ true
 has_more p q f h k = any_more (λ e. p e.what) (λ e. q e.what) (λ e. f e.what) h k

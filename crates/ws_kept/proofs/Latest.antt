@@ -1,13 +1,13 @@
 -- The latest versions are those of the events that fetched them.
-use Rattle.std.proofs.Common.{◌≡◌, ℕ, Bool, true, false, cond, ◌&&◌, ◌||◌, List, [], ◌∷◌, ◌++◌, ◌≤◌, ◌<◌, refl, ap, sym, ◌∙◌, subst, arith, inl, inr}
-use Rattle.std.specs.Prelude.{Option, Some, None, IfSome, IsSome, filter, find, ◌==◌}
+use Rattle.std.proofs.Common.{◌≡◌, ℕ, Bool, true, false, ◌&&◌, ◌||◌, List, [], ◌∷◌, ◌++◌, ◌≤◌, ◌<◌, refl, ap, sym, ◌∙◌, subst, arith, inl, inr}
+use Rattle.std.specs.Prelude.{Some, find, ◌==◌}
 use Rattle.std.specs.List.{AllByRecursion, list_any}
-use Rattle.std.proofs.lemmas.Bool.{and_from, and_parts, eqb-true, false≢true, false_from_ne_true, ltb-true, or_cases, or_left, or_right}
+use Rattle.std.proofs.lemmas.Bool.{and_from, and_parts, eqb-true, false≢true, ltb-true, or_cases, or_left, or_right}
 use Rattle.std.proofs.lemmas.Bool.Decides.{nat_tests}
 use Rattle.ws_model.specs.declared.event.Event.{Event}
 use Rattle.ws_model.specs.declared.event.Version.{Version}
 use Rattle.ws_model.specs.declared.event.What.{What}
-use Rattle.ws_model.specs.declared.event.What.TheVariants.{Asked, Confirmed, Declined, Unheard, Barred, Noticed, Pinged, Fetched, Same, Unfetched, Pushed, Tally, Revoked}
+use Rattle.ws_model.specs.declared.event.What.TheVariants.{Fetched, Pushed}
 use Rattle.ws_model.specs.History.{has}
 use Rattle.ws_model.specs.Legal.{Legal, is_allowed}
 use Rattle.ws_model.specs.Moment.{last_version}
@@ -15,7 +15,7 @@ use Rattle.ws_model.specs.Versions.{is_fetched, is_version, latest, latest_of, v
 use Rattle.ws_laws.proofs.Ended.{both_true}
 use Rattle.ws_laws.proofs.Follow.{any_of_filter}
 use Rattle.ws_laws.proofs.Known.{allowed, itself}
-use Rattle.ws_laws.proofs.ListLaws.{all_append, all_filter_with, all_find, all_from, all_weaker, any_then}
+use Rattle.ws_laws.proofs.ListLaws.{all_filter_with, all_find, all_weaker, any_then}
 use Rattle.ws_laws.proofs.Topics.{versions_le}
 use Rattle.ws_lease.proofs.SortedEntries.{any_filter}
 use Rattle.ws_compaction.proofs.Fetches.{any_more}
@@ -69,8 +69,7 @@ IsTold vs v = find (λ w. w.ver == v.ver) vs ≡ Some v
 
 told_new : (w : What) (t : ℕ) (h : List Event) → is_allowed w t h ≡ true → AllByRecursion (IsTold (versions h)) (versions h) → AllByRecursion (IsTold (versions_of w ++ versions h)) (versions_of w ++ versions h)
 told_new (Fetched v) t h k a =
-    let new : last_version h < v.ver = ltb-true _ _ k in
-    (
+    let new : last_version h < v.ver = ltb-true _ _ k in (
       rw (itself v.ver),
       all_weaker (λ w. (w.ver ≤ last_version h) × IsTold (versions h) w) (IsTold (v ∷ versions h)) (λ w b. let c : (v.ver == w.ver) ≡ false = higher v.ver w.ver (last_version h) new b.0 in rw c b.1) (versions h)
           (both_true (λ w. w.ver ≤ last_version h) (IsTold (versions h)) (versions h) (versions_le h) a),

@@ -1,11 +1,12 @@
 -- Tests over lists, sets of numbers, and the log of a history.
-use Rattle.std.proofs.Common.{◌≡◌, ℕ, ◌+◌, ◌≤◌, ◌<◌, Bool, true, false, cond, not, ◌&&◌, ◌||◌, List, [], ◌∷◌, ◌++◌, refl, ap, sym, ◌∙◌, subst, arith, drop, length, get_or, inl, inr}
-use Rattle.std.specs.Prelude.{filter, map, reverse, ◌==◌}
+use Rattle.std.proofs.Common.{◌≡◌, ℕ, ◌+◌, ◌≤◌, ◌<◌, Bool, true, false, not, ◌&&◌, ◌||◌, List, [], ◌∷◌, refl, ap, sym, ◌∙◌, arith, drop, length, get_or}
+use Rattle.std.specs.Prelude.{filter, reverse, ◌==◌}
 use Rattle.std.specs.List.{AllByRecursion, list_any}
 use Rattle.std.specs.BTreeMap.{is_at}
 use Rattle.std.specs.BTreeSet.{BTreeSet, contains}
 use Rattle.std.specs.Ordering.{nat_cmp}
-use Rattle.std.proofs.lemmas.Bool.{and_parts, false≢true, not-true, or_cases, or_left, or_right}
+use Rattle.std.proofs.Math.Bool.{or-false, or_comm}
+use Rattle.std.proofs.lemmas.Bool.{false≢true, or_left, or_right}
 use Rattle.std.proofs.lemmas.Bool.Decides.{nat_tests}
 use Rattle.std.proofs.lemmas.List.{at_drop_all, drop_more, reverse-append}
 use Rattle.std.proofs.lemmas.List.Folds.{list_any-append}
@@ -26,12 +27,12 @@ both_ways false false f g = refl
 
 -- ---- tests over lists
 
--- an element of a list passes what the list passes none of
+-- each test that an element of a list passes finds one
 pub each_any : {X : Type 0} (xs : List X) → AllByRecursion (λ x. (q : X → Bool) → q x ≡ true → list_any q xs ≡ true) xs
 each_any [] = tt
 each_any {X} (x ∷ xs) = ((λ q k. or_left _ _ k), all_weaker (λ y. (q : X → Bool) → q y ≡ true → list_any q xs ≡ true) (λ y. (q : X → Bool) → q y ≡ true → list_any q (x ∷ xs) ≡ true) (λ y f q k. or_right (q x) _ (f q k)) xs (each_any xs))
 
--- what passes a test
+-- what a test finds
 pub any_one : {X : Type 0} (q : X → Bool) (G : Type 0) → ((x : X) → q x ≡ true → G) → (xs : List X) → list_any q xs ≡ true → G
 any_one {X} q G f xs k = any_then (λ (x : X). Unit {0}) q G (λ x _ a. f x a) xs (all_from (λ (x : X). Unit {0}) (λ x. tt) xs) k
 
@@ -39,23 +40,13 @@ pub any_same : {X : Type 0} (p q : X → Bool) → ((x : X) → p x ≡ q x) →
 any_same p q f [] = refl
 any_same p q f (x ∷ xs) = (λ i. f x i || any_same p q f xs i)
 
-pub or_turned : (a b : Bool) → (a || b) ≡ (b || a)
-or_turned true true = refl
-or_turned true false = refl
-or_turned false true = refl
-or_turned false false = refl
-
-or_nothing : (a : Bool) → (a || false) ≡ a
-or_nothing true = refl
-or_nothing false = refl
-
 pub any_reverse : {X : Type 0} (q : X → Bool) (xs : List X) → list_any q (reverse xs) ≡ list_any q xs
 any_reverse q [] = refl
 any_reverse q (x ∷ xs) =
     ap (list_any q) (reverse-append (x ∷ []) xs)
     ∙ list_any-append q (reverse xs) (x ∷ [])
-    ∙ (λ i. any_reverse q xs i || or_nothing (q x) i)
-    ∙ or_turned (list_any q xs) (q x)
+    ∙ (λ i. any_reverse q xs i || or-false (q x) i)
+    ∙ or_comm (list_any q xs) (q x)
 
 -- ---- a set with one more number
 

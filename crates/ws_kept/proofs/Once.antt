@@ -1,6 +1,6 @@
 -- A lease is replaced once: the pairs that went over from it, went over at that event.
-use Rattle.std.proofs.Common.{◌≡◌, ℕ, ◌≤◌, Bool, true, false, cond, ◌&&◌, ◌||◌, List, [], ◌∷◌, ◌++◌, refl, ap, sym, ◌∙◌, subst, arith, inl, inr, ◌⊎◌}
-use Rattle.std.specs.Prelude.{Option, Some, None, is_none, find, filter, ◌==◌}
+use Rattle.std.proofs.Common.{◌≡◌, ℕ, ◌≤◌, Bool, true, false, cond, ◌&&◌, List, [], ◌∷◌, ◌++◌, refl, ap, sym, ◌∙◌, subst, inl, inr, ◌⊎◌}
+use Rattle.std.specs.Prelude.{Option, Some, None, is_none, find, ◌==◌}
 use Rattle.std.specs.List.{AllByRecursion, list_any}
 use Rattle.std.proofs.lemmas.Bool.{and_from, and_parts, eqb-true, false≢true, or_cases, or_left}
 use Rattle.ws_model.specs.declared.event.Event.{Event}
@@ -31,9 +31,13 @@ use Rattle.ws_kept.specs.Finding.{is_replaced}
 use Rattle.ws_kept.proofs.Lists.{both_ways, each_any}
 use Rattle.ws_kept.proofs.WentOver.{replaced_fate, went}
 
+pub legal_behind : (d g : List Event) → Legal (d ++ g) → Legal g
+legal_behind [] g l = l
+legal_behind (e ∷ d) g l = legal_behind d g l.0
+
 -- ---- a lease that is live
 
--- told by its number
+-- it is told by its number, and live at t
 pub record Lives (g : List Event) (t : ℕ) (z : Lease) : Type 0 where
   pub told : IsTold g z
   pub confirmed : IsOfConfirmed g z
@@ -103,14 +107,10 @@ single _ o = tt
 -- once it ended, it lives no more
 not_twice : (d : List Event) (f : Event) (k : List Event) (u : ℕ) (z y : Lease) → Legal (d ++ f ∷ k) → last_time (d ++ f ∷ k) ≤ u → Lives k f.t z → is_none (end_by f.what (confirmed_intent f.what k) z) ≡ false → Lives (d ++ f ∷ k) u y → z.intent.n ≡ y.intent.n → ⊥
 not_twice d f k u z y l le old ends new same =
-    let next = told_behind d (f ∷ k) z l (has_later f k (is_confirmed z.intent.n) old.confirmed) (skipped z.intent.n (lease_of f.what (confirmed_intent f.what k)) (leases k) (others f k (legal_at d f k l).1 z.intent.n old.confirmed) ∙ old.told) in
+    let next = told_behind d (f ∷ k) z l (has_later f k (is_confirmed z.intent.n) old.confirmed) (skipped z.intent.n (lease_of f.what (confirmed_intent f.what k)) (leases k) (others f k (legal_behind d (f ∷ k) l).1 z.intent.n old.confirmed) ∙ old.told) in
     let one : Some z ≡ Some y = sym next.1 ∙ ap (λ n. find (is_numbered n) (leases (d ++ f ∷ k))) same ∙ new.told in
     let is : z ≡ y = cc in
     false≢true (sym (ended_behind d (f ∷ k) z (ended_by f k z old ends)) ∙ ap (λ x. is_none (first_end (d ++ f ∷ k) x)) is ∙ ap is_none (live_first (λ v. true) (d ++ f ∷ k) y u le new.alive))
-  where
-    legal_at : (d : List Event) (f : Event) (k : List Event) → Legal (d ++ f ∷ k) → Legal (f ∷ k)
-    legal_at [] f k l = l
-    legal_at (e ∷ d) f k l = legal_at d f k l.0
 
 -- ---- two events of one history
 
@@ -145,10 +145,6 @@ module _ (h : List Event) (t : ℕ) (versions : ℕ → Bool) (l : Legal h) (le 
 
   legal : Legal (c ++ e ∷ g)
   legal = subst Legal q l
-
-  legal_behind : (d k : List Event) → Legal (d ++ k) → Legal k
-  legal_behind [] k l = l
-  legal_behind (y ∷ d) k l = legal_behind d k l.0
 
   here : Legal (e ∷ g)
   here = legal_behind c (e ∷ g) legal

@@ -1,11 +1,11 @@
 -- The versions of the pairs that are open in the table and owed are the history's.
-use Rattle.std.proofs.Common.{◌≡◌, ℕ, ◌≤◌, Bool, true, false, cond, ◌&&◌, ◌||◌, List, [], ◌∷◌, refl, ap, sym, ◌∙◌, subst, arith}
-use Rattle.std.specs.Prelude.{Option, Some, None, find, filter, map, ◌==◌}
+use Rattle.std.proofs.Common.{◌≡◌, ℕ, Bool, true, false, cond, ◌&&◌, List, [], ◌∷◌, refl, ap, sym, ◌∙◌, arith}
+use Rattle.std.specs.Prelude.{Some, ◌==◌}
 use Rattle.std.specs.List.{list_any}
 use Rattle.std.specs.BTreeMap.{is_at}
 use Rattle.std.specs.Map.{lookup}
 use Rattle.std.specs.Option.{option_map}
-use Rattle.std.proofs.lemmas.Bool.{and_from, and_parts, eqb-true, false≢true, or_left, or_right}
+use Rattle.std.proofs.lemmas.Bool.{and_from, and_parts, eqb-true, or_left, or_right}
 use Rattle.std.proofs.lemmas.Bool.Decides.{nat_tests}
 use Rattle.ws_model.specs.declared.event.Event.{Event}
 use Rattle.ws_model.specs.Fate.{Pair, fate, is_owed}
@@ -20,7 +20,7 @@ use Rattle.ws_compaction.proofs.Fetches.{any_more}
 use Rattle.ws_fate.specs.declared.totals.Standing.{Standing}
 use Rattle.ws_fate.specs.declared.totals.Standing.TheVariants.{Open}
 use Rattle.ws_fate.specs.Rows.{Rows, pair_order, standing_at}
-use Rattle.ws_fate.specs.Stands.{AreShown, is_owed_at, without_expiry}
+use Rattle.ws_fate.specs.Stands.{is_owed_at, without_expiry}
 use Rattle.ws_fate.specs.Totals.{standing}
 use Rattle.ws_fate.proofs.Passing.{open_one}
 use Rattle.ws_kept.specs.Finding.{Pairs, is_open, owes}
@@ -61,6 +61,7 @@ module _ (h : List Event) (t v : ℕ) (l : Legal h) (rows : Rows) (shows : (w n 
       (and_from _ _ b.1 ((λ i. is_owed_at h t (ver i) (lease i)) ∙ there (λ q. (q.version.ver == p.version.ver) && (q.lease.intent.n == p.lease.intent.n)) (and_from _ _ (itself p.version.ver) (itself p.lease.intent.n)))))
       rows.pairs
       (shown_any p.lease.intent.n p.version.ver is_open Open rows.pairs stands refl)
+
   pub owed_found : list_any (owes h t v) rows.pairs ≡ list_any (λ p. p.version.ver == v) (owed h t)
   owed_found =
       both_ways (list_any (owes h t v) rows.pairs) (list_any (λ p. p.version.ver == v) (owed h t))

@@ -1,11 +1,10 @@
 -- One pass over the renewals finds the leases that a compaction keeps.
-use Rattle.std.proofs.Common.{◌≡◌, ℕ, ◌≤◌, ◌<◌, Bool, true, false, cond, ◌&&◌, ◌||◌, List, [], ◌∷◌, ◌++◌, refl, ap, sym, ◌∙◌, subst, arith}
+use Rattle.std.proofs.Common.{◌≡◌, ℕ, ◌≤◌, Bool, true, false, cond, ◌&&◌, ◌||◌, List, [], ◌∷◌, ◌++◌, refl, ap, sym, ◌∙◌, subst, arith}
 use Rattle.std.specs.Prelude.{Option, Some, None, is_none, find, filter, map, nat_lt, reverse, ◌==◌}
 use Rattle.std.specs.List.{AllByRecursion, list_any}
-use Rattle.std.specs.List.Sorted.{IsStrictlySortedBy}
-use Rattle.std.specs.Map.{keys_of}
 use Rattle.std.specs.Option.{option_map}
-use Rattle.std.proofs.lemmas.Bool.{and_parts, eqb-true, false≢true, ltb-true}
+use Rattle.std.proofs.Math.Bool.{and-false, and_comm}
+use Rattle.std.proofs.lemmas.Bool.{and_parts}
 use Rattle.std.proofs.lemmas.Bool.Decides.{nat_tests}
 use Rattle.std.proofs.lemmas.List.{reverse-append}
 use Rattle.std.proofs.lemmas.List.Folds.{list_any-append}
@@ -17,14 +16,12 @@ use Rattle.ws_model.specs.declared.lease.Lease.{Lease}
 use Rattle.ws_model.specs.Fate.{Pair, fate, is_owed}
 use Rattle.ws_model.specs.Intents.{asked, intents_of, same_pair}
 use Rattle.ws_model.specs.Keep.{member, replaced_by, with_replaced}
-use Rattle.ws_model.specs.Key.{is_key}
 use Rattle.ws_model.specs.Leases.{confirmed_intent, lease_end, lease_of, leases, live}
-use Rattle.ws_model.specs.Legal.{Legal, is_grant, is_key_text, is_sound, is_text, number_limit, secret_limit}
+use Rattle.ws_model.specs.Legal.{Legal, is_sound, number_limit}
 use Rattle.ws_model.specs.Moment.{last_time}
 use Rattle.ws_model.specs.Pairs.{owed, pairs}
 use Rattle.ws_model.specs.Revocation.{is_lease_of, live_lease_of}
 use Rattle.ws_laws.proofs.Ended.{IsToldPair, both_true, pairs_told}
-use Rattle.ws_laws.proofs.Follow.{any_map}
 use Rattle.ws_laws.proofs.Known.{in_time, sound}
 use Rattle.ws_laws.proofs.ListLaws.{all_append, all_filter, all_filter_with, all_find, all_from, all_weaker}
 use Rattle.ws_laws.proofs.Notices.{leases_asked}
@@ -37,7 +34,7 @@ use Rattle.ws_core_tables.proofs.Confirmation.{pair_by_number}
 use Rattle.ws_core_tables.proofs.Renewal.{find_same}
 use Rattle.ws_kept.specs.Finding.{with_old_ones, with_one}
 use Rattle.ws_kept.specs.Stands.{renewals, replaces, with_old}
-use Rattle.ws_kept.proofs.Once.{IsSingle, Lives, all_live, goes_is_went, single}
+use Rattle.ws_kept.proofs.Once.{IsSingle, Lives, all_live, goes_is_went, legal_behind, single}
 use Rattle.ws_kept.proofs.WentOver.{went}
 
 -- ---- numbers of leases
@@ -136,10 +133,6 @@ moved : (c : List Event) (e : Event) (g : List Event) → c ++ e ∷ g ≡ (c ++
 moved [] e g = refl
 moved (x ∷ c) e g = ap (λ h. x ∷ h) (moved c e g)
 
-legal_behind : (c g : List Event) → Legal (c ++ g) → Legal g
-legal_behind [] g l = l
-legal_behind (e ∷ c) g l = legal_behind c g l.0
-
 member_append : (n : ℕ) (xs ys : List ℕ) → member n (xs ++ ys) ≡ (member n xs || member n ys)
 member_append n xs ys = list_any-append (λ m. m == n) xs ys
 
@@ -166,16 +159,7 @@ module _ (h : List Event) (t : ℕ) (versions goes : ℕ → Bool) (l : Legal h)
     before = in_time g e here.1
 
     swapped : (p q r s : Bool) → ((p && (q && r)) || s) ≡ (((p && r) && q) || s)
-    swapped true true r s = ap (λ z. z || s) (ends r)
-      where
-        ends : (r : Bool) → r ≡ (r && true)
-        ends true = refl
-        ends false = refl
-    swapped true false r s = ap (λ z. z || s) (never r)
-      where
-        never : (r : Bool) → false ≡ (r && false)
-        never true = refl
-        never false = refl
+    swapped true q r s = ap (λ z. z || s) (and_comm q r)
     swapped false q r s = refl
 
     -- where the new lease x replaces one
@@ -183,12 +167,8 @@ module _ (h : List Event) (t : ℕ) (versions goes : ℕ → Bool) (l : Legal h)
         → member n (replaced_by versions a (owed g e.t) (x ∷ ls) ++ a) ≡ member n (with_old_ones goes b (reverse (with_old x.intent.n o)))
     replaced x ls makes none None f =
         member_append n (replaced_by versions a (owed g e.t) (x ∷ ls)) a
-        ∙ ap (λ z. z || member n a) (cond_member n (member x.intent.n a) _ ∙ ap (λ z. member x.intent.n a && z) (none_moves g e.t x here.0 before versions n f) ∙ never (member x.intent.n a))
+        ∙ ap (λ z. z || member n a) (cond_member n (member x.intent.n a) _ ∙ ap (λ z. member x.intent.n a && z) (none_moves g e.t x here.0 before versions n f) ∙ and-false (member x.intent.n a))
         ∙ alike n
-      where
-        never : (r : Bool) → (r && false) ≡ false
-        never true = refl
-        never false = refl
     replaced x ls makes none (Some m) f =
         let found = all_find (λ (z : Lease). Lives g e.t z × (nat_lt z.intent.n number_limit ≡ true)) (λ z. same_pair x.intent z.intent) m (live g e.t)
         (both_true (Lives g e.t) (λ z. nat_lt z.intent.n number_limit ≡ true) (live g e.t) (all_live g e.t here.0) (all_filter (λ (z : Lease). nat_lt z.intent.n number_limit ≡ true) (λ z. is_none (lease_end g z e.t)) (leases g) (leases_below g here.0))) f in

@@ -20,28 +20,67 @@ struct Case {
 
 const CASES: [Case; 7] = [
     // Version 7 went over from lease 1 to lease 2, and from there to lease 3.
-    Case { first: &[3], versions: &[7], kept: &[1, 2, 3] },
-    Case { first: &[2], versions: &[7], kept: &[1, 2] },
-    Case { first: &[1], versions: &[7], kept: &[1] },
+    Case {
+        first: &[3],
+        versions: &[7],
+        kept: &[1, 2, 3],
+    },
+    Case {
+        first: &[2],
+        versions: &[7],
+        kept: &[1, 2],
+    },
+    Case {
+        first: &[1],
+        versions: &[7],
+        kept: &[1],
+    },
     // It isn't kept.
-    Case { first: &[3], versions: &[8], kept: &[3] },
+    Case {
+        first: &[3],
+        versions: &[8],
+        kept: &[3],
+    },
     // Version 8 went over from lease 4 to lease 5, and version 9 had ended before.
-    Case { first: &[5], versions: &[8], kept: &[4, 5] },
-    Case { first: &[5], versions: &[9], kept: &[5] },
-    Case { first: &[3, 5], versions: &[7, 8], kept: &[1, 2, 3, 4, 5] },
+    Case {
+        first: &[5],
+        versions: &[8],
+        kept: &[4, 5],
+    },
+    Case {
+        first: &[5],
+        versions: &[9],
+        kept: &[5],
+    },
+    Case {
+        first: &[3, 5],
+        versions: &[7, 8],
+        kept: &[1, 2, 3, 4, 5],
+    },
 ];
+
+/// Version and lease of a pair, and why it ended.
+const PAIRS: [(u64, u64, Cause); 4] = [
+    (7, 1, Cause::Replaced),
+    (7, 2, Cause::Replaced),
+    (8, 4, Cause::Replaced),
+    (9, 4, Cause::Spent),
+];
+
+/// Adds a pair that ended, where there is none yet.
+fn add(fates: &mut Fates, ver: u64, lease: u64, cause: Cause) -> Result<(), NoMemory> {
+    if fates.get(ver, lease).is_none() {
+        fates.born(ver, lease)?;
+        fates.end(ver, lease, Standing::Ended(cause));
+    }
+    Ok(())
+}
 
 fn pairs(alloc: Global) -> Result<Fates, NoMemory> {
     let mut fates = Fates::empty(alloc);
-    fates.born(7, 1)?;
-    fates.end(7, 1, Standing::Ended(Cause::Replaced));
-    fates.born(7, 2)?;
-    fates.end(7, 2, Standing::Ended(Cause::Replaced));
-    fates.born(8, 4)?;
-    fates.end(8, 4, Standing::Ended(Cause::Replaced));
-    fates.born(9, 4)?;
-    fates.end(9, 4, Standing::Ended(Cause::Spent));
-    fates.born(7, 3)?;
+    for (ver, lease, cause) in PAIRS {
+        add(&mut fates, ver, lease, cause)?;
+    }
     Ok(fates)
 }
 
@@ -65,7 +104,10 @@ fn replaced_leases(rt: HostRuntime) -> Result<(), Fail> {
     let alloc = rt.alloc();
     let fates = pairs(alloc)?;
     for case in &CASES {
-        assert_eq!(rt; (case.first, case.versions, holds(alloc, &fates, case)?), (case.first, case.versions, true));
+        assert_eq!(rt;
+            (case.first, case.versions, holds(alloc, &fates, case)?),
+            (case.first, case.versions, true)
+        );
     }
     Ok(())
 }

@@ -1,8 +1,8 @@
 -- Events made whole again: kept versions are held, and each number is of one version.
-use Rattle.std.proofs.Common.{◌≡◌, ℕ, ◌≤◌, ◌<◌, Bool, true, false, cond, not, ◌&&◌, ◌||◌, List, [], ◌∷◌, ◌++◌, refl, ap, sym, ◌∙◌, subst, arith, inl, inr}
-use Rattle.std.specs.Prelude.{Option, Some, None, IsSome, IfSome, is_some, find, ◌==◌}
+use Rattle.std.proofs.Common.{◌≡◌, ℕ, ◌≤◌, ◌<◌, true, false, cond, not, ◌&&◌, List, [], ◌∷◌, ◌++◌, refl, ap, sym, ◌∙◌, arith, inl, inr}
+use Rattle.std.specs.Prelude.{Option, Some, None, IsSome, IfSome, find, ◌==◌}
 use Rattle.std.specs.List.{AllByRecursion, list_any}
-use Rattle.std.proofs.lemmas.Bool.{and_parts, eqb-true, false≢true, ltb-true, or_cases}
+use Rattle.std.proofs.lemmas.Bool.{false≢true, ltb-true, or_cases}
 use Rattle.std.proofs.lemmas.Bool.Decides.{nat_tests}
 use Rattle.ws_model.specs.declared.event.Event.{Event}
 use Rattle.ws_model.specs.declared.event.Version.{Version}
@@ -16,7 +16,6 @@ use Rattle.ws_model.specs.Verdict.{is_kept_version}
 use Rattle.ws_model.specs.Versions.{latest, versions, versions_of}
 use Rattle.ws_laws.proofs.Known.{allowed, itself}
 use Rattle.ws_laws.proofs.ListLaws.{all_weaker}
-use Rattle.ws_laws.proofs.Topics.{versions_le}
 use Rattle.ws_tries.specs.Stands.{is_any_push}
 use Rattle.ws_kept.specs.Stands.{light, light_event}
 use Rattle.ws_sift.specs.Sifted.{IsFoundIn, is_kept_other, version_in}

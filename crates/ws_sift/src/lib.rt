@@ -4,7 +4,5 @@
 mod choosing;
 mod restoring;
 mod sift;
-#[cfg(test)]
-mod tests;
 
 pub use sift::kept_events;

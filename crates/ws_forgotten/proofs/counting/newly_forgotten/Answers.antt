@@ -1,6 +1,6 @@
-use Rattle.std.proofs.Common.{◌≡◌, sym, ap, ◌∙◌, arith}
+use Rattle.std.proofs.Common.{sym, ap, ◌∙◌}
 use Rattle.ws_forgotten.specs.Forgotten.{with_forgotten}
-use Rattle.ws_forgotten.proofs.OneByOne.{forgotten_counted, kept_skipped, none_left, one_within}
+use Rattle.ws_forgotten.proofs.OneByOne.{none_left}
 use Rattle.ws_forgotten.proofs.counting.newly_forgotten.Goals as goal
 
 pub returns-clause-counted : goal.returns-clause-counted

@@ -1,6 +1,5 @@
-use Rattle.std.proofs.Common.{◌≡◌, ap, ◌∙◌}
+use Rattle.std.proofs.Common.{◌≡◌, ◌∙◌}
 use Rattle.ws_model.specs.declared.event.What.TheVariants.{Tally}
-use Rattle.ws_fate.specs.declared.totals.Totals.{Totals}
 use Rattle.ws_forgotten.specs.Forgotten.{sums}
 use Rattle.ws_forgotten.proofs.Whole.{all_are, all_forgotten}
 use Rattle.ws_forgotten.proofs.head.tally.Goals as goal

@@ -1,4 +1,4 @@
-use Rattle.std.proofs.Common.{◌≡◌, ℕ, ◌+◌, ◌-◌, ◌≤◌, List, [], ◌++◌, length, take, drop, refl, sym, ap, ◌∙◌, subst, arith, append_assoc, append-nil, length-append, length-drop, length-take, take-append-drop, false}
+use Rattle.std.proofs.Common.{◌≡◌, ℕ, ◌+◌, ◌-◌, ◌≤◌, List, [], ◌++◌, length, take, drop, refl, sym, ap, ◌∙◌, subst, arith, append_assoc, append-nil, length-append, length-drop, length-take, take-append-drop}
 use Rattle.std.proofs.lemmas.Bool.Decides.{nat_tests}
 use Rattle.std.proofs.lemmas.List.{take-take, drop-append-le}
 use Rattle.ws_http.specs.declared.chunk.Line.TheVariants as line
@@ -7,9 +7,7 @@ use Rattle.ws_http.specs.declared.flow.Point.{Point}
 use Rattle.ws_http.specs.declared.flow.DataEnd.TheVariants as end
 use Rattle.ws_http.specs.Chunks.{LineIs}
 use Rattle.ws_http.specs.Flow.{Flows}
-use Rattle.std.specs.Vec.{vec_capacity}
-use Rattle.ws_http.specs.ResponseStages.{is_full}
-use Rattle.ws_http.specs.ResponseData.{IsDataEnd, IsIdle}
+use Rattle.ws_http.specs.FlowEnds.{IsDataEnd, IsIdle}
 use Rattle.ws_http.proofs.FlowLemmas.{shut_open, shut_zero, line_on, line_long, line_found, line_never, nothing, take_self, cleared, some_by}
 use Rattle.ws_http.proofs.flow.read_on_line.Goals as goal
 
@@ -30,7 +28,7 @@ overflow_sub-used c =
     omega (arith, before, long, length-drop start raw)
 
 pub returns-in-Never-clause-steps : goal.returns-in-Never-clause-steps
-returns-in-Never-clause-steps c need came body room k =
+returns-in-Never-clause-steps c quota came body k =
     let start = c.args.start in
     let raw = c.args.raw.now.items in
     let held = drop start raw in
@@ -42,11 +40,11 @@ returns-in-Never-clause-steps c need came body room k =
     let is = subst (λ (t : List ℕ). LineIs t line.Never)
     (c.held.ensures ∙ ap (λ (t : List ℕ). drop start t) c.deref.ensures.value ∙ now) c.in-Never.ensures in
     let sum : z ++ y ≡ piece = (λ i. c.split_at.ensures.front i ++ c.split_at.ensures.back i) ∙ take-append-drop c.line_length.result piece in
-    subst (λ (t : List ℕ). IsDataEnd need (came ++ t) held body end.Wrong) sum
-    (line_never need came held body c.args.point k c.requires.at_line z y held is)
+    subst (λ (t : List ℕ). IsDataEnd quota (came ++ t) held body end.Wrong) sum
+    (line_never quota came held body c.args.point k c.requires.at_line z y held is)
 
 pub returns-in-Open-clause-steps : goal.returns-in-Open-clause-steps
-returns-in-Open-clause-steps c need came body room k =
+returns-in-Open-clause-steps c quota came body k =
     let start = c.args.start in
     let raw = c.args.raw.now.items in
     let held = drop start raw in
@@ -62,14 +60,14 @@ returns-in-Open-clause-steps c need came body room k =
     let sum : z ++ y ≡ piece = (λ i. c.split_at.ensures.front i ++ c.split_at.ensures.back i) ∙ take-append-drop c.line_length.result piece in
     let all : z ≡ piece = sym (append-nil z) ∙ ap (λ (t : List ℕ). z ++ t) (sym none) ∙ sum in
     let next_point : Point = record { place = place.Line; count = p.count + length z; size = p.size } in (
-      subst (λ (t : List ℕ). Flows need (came ++ t) (drop start c.grow.new.kept.items) body next_point) all
-          (subst (λ (t : List ℕ). Flows need (came ++ z) t body next_point) (sym now)
-          (line_on need came held body p k c.requires.at_line z (shut_open (held ++ z) is))),
+      subst (λ (t : List ℕ). Flows quota (came ++ t) (drop start c.grow.new.kept.items) body next_point) all
+          (subst (λ (t : List ℕ). Flows quota (came ++ z) t body next_point) (sym now)
+          (line_on quota came held body p k c.requires.at_line z (shut_open (held ++ z) is))),
       subst (λ (t : List ℕ). IsIdle t place.Line) (sym now) (line.Open, is, refl),
     )
 
 pub returns-in-Open-2-clause-steps : goal.returns-in-Open-2-clause-steps
-returns-in-Open-2-clause-steps c need came body room k =
+returns-in-Open-2-clause-steps c quota came body k =
     let start = c.args.start in
     let raw = c.args.raw.now.items in
     let held = drop start raw in
@@ -83,12 +81,12 @@ returns-in-Open-2-clause-steps c need came body room k =
     (c.held.ensures ∙ ap (λ (t : List ℕ). drop start t) c.deref.ensures.value ∙ now) c.in-Open-2.ensures in
     let same : take (length z) piece ≡ z = ap (λ (t : List ℕ). take (length t) piece) front ∙ take_self c.line_length.result piece ∙ sym front in
     let next_point : Point = record { place = place.Line; count = p.count + length z; size = p.size } in
-    subst (λ (t : List ℕ). Flows need (came ++ t) (drop start c.grow.new.kept.items) body next_point) (sym same)
-    (subst (λ (t : List ℕ). Flows need (came ++ z) t body next_point) (sym now)
-    (line_on need came held body p k c.requires.at_line z (shut_open (held ++ z) is)))
+    subst (λ (t : List ℕ). Flows quota (came ++ t) (drop start c.grow.new.kept.items) body next_point) (sym same)
+    (subst (λ (t : List ℕ). Flows quota (came ++ z) t body next_point) (sym now)
+    (line_on quota came held body p k c.requires.at_line z (shut_open (held ++ z) is)))
 
 pub returns-in-Whole-default-eq0-clause-steps : goal.returns-in-Whole-default-eq0-clause-steps
-returns-in-Whole-default-eq0-clause-steps c need came body room k =
+returns-in-Whole-default-eq0-clause-steps c quota came body k =
     let start = c.args.start in
     let raw = c.args.raw.now.items in
     let held = drop start raw in
@@ -105,16 +103,14 @@ returns-in-Whole-default-eq0-clause-steps c need came body room k =
     (c.held.ensures ∙ ap (λ (t : List ℕ). drop start t) c.deref.ensures.value ∙ now) w.ensures) in
     let sum : z ++ y ≡ piece = (λ i. c.split_at.ensures.front i ++ c.split_at.ensures.back i) ∙ take-append-drop c.line_length.result piece in
     let next_point : Point = record { place = place.Line; count = p.count + length z; size = p.size } in
-    let fits : is_full need ≡ false → length c.grow.new.kept.items + length y ≤ vec_capacity c.grow.new.kept =
-    λ part. omega (arith, room part, ap length c.in_default.ensures.ok, length-append raw z, ap length sum, length-append z y, c.grow.ensures.capacity) in
-    let flows = subst (λ (t : List ℕ). Flows need (came ++ z) t body next_point) (sym now)
-    (line_on need came held body p k c.requires.at_line z (shut_zero (held ++ z) w.len is)) in
-    subst (λ (t : List ℕ). IsDataEnd need t (drop start c.read_trailer.new.raw.items) body c.read_trailer.result)
+    let flows = subst (λ (t : List ℕ). Flows quota (came ++ z) t body next_point) (sym now)
+    (line_on quota came held body p k c.requires.at_line z (shut_zero (held ++ z) w.len is)) in
+    subst (λ (t : List ℕ). IsDataEnd quota t (drop start c.read_trailer.new.raw.items) body c.read_trailer.result)
     (append_assoc came z y ∙ ap (λ (t : List ℕ). came ++ t) sum)
-    (c.read_trailer.ensures.ends need (came ++ z) body fits flows)
+    (c.read_trailer.ensures.ends quota (came ++ z) body flows)
 
 pub returns-in-Whole-clause-steps : goal.returns-in-Whole-clause-steps
-returns-in-Whole-clause-steps c need came body room k =
+returns-in-Whole-clause-steps c quota came body k =
     let start = c.args.start in
     let raw = c.args.raw.now.items in
     let held = drop start raw in
@@ -130,7 +126,7 @@ returns-in-Whole-clause-steps c need came body room k =
     (c.held.ensures ∙ ap (λ (t : List ℕ). drop start t) c.deref.ensures.value ∙ now) c.in-Whole.ensures in
     let some = some_by size c.in-Whole.size-test.1 in
     let before : c.len.result ≡ length raw = omega (arith, c.args.raw.now.ok.0, c.len.ensures) in
-    let long = line_long need came held body p k c.requires.at_line z len size is some in
+    let long = line_long quota came held body p k c.requires.at_line z len size is some in
     let used = len - (c.len.result - start) in
     let most : used ≤ length z = omega (arith, is.4, before, long, length-append held z, length-drop start raw) in
     let within : used ≤ c.line_length.result = omega (arith, most, ap length front, length-take c.line_length.result piece) in
@@ -139,11 +135,11 @@ returns-in-Whole-clause-steps c need came body room k =
     let split : z ≡ new ++ drop used z = sym (take-append-drop used z) ∙ ap (λ (t : List ℕ). t ++ drop used z) cut in
     let count : length new ≡ used = omega (arith, most, ap length cut, length-take used z) in
     let ends : len ≡ length held + length new = omega (arith, count, before, long, length-drop start raw) in
-    let found = line_found need came held body p k c.requires.at_line new (drop used z) len size
+    let found = line_found quota came held body p k c.requires.at_line new (drop used z) len size
     (subst (λ (t : List ℕ). LineIs (held ++ t) (line.Whole len size)) split is) ends some in
     let none = ap (λ (t : List ℕ). drop start t) c.truncate.ensures.items ∙ cleared start c.grow.new.kept.items in
-    subst (λ (j : ℕ). Flows need (came ++ new) (drop start c.truncate.new.self.items) body (record { place = place.Data size; count = p.count + j; size = p.size })) count
-    (subst (λ (t : List ℕ). Flows need (came ++ new) t body (record { place = place.Data size; count = p.count + length new; size = p.size })) (sym none) found)
+    subst (λ (j : ℕ). Flows quota (came ++ new) (drop start c.truncate.new.self.items) body (record { place = place.Data size; count = p.count + j; size = p.size })) count
+    (subst (λ (t : List ℕ). Flows quota (came ++ new) t body (record { place = place.Data size; count = p.count + length new; size = p.size })) (sym none) found)
 
 pub returns-in-Whole-clause-advances : goal.returns-in-Whole-clause-advances
 returns-in-Whole-clause-advances c =
@@ -167,3 +163,12 @@ returns-in-Whole-clause-advances c =
       omega (arith, is.4, before, long, length-append held z, length-drop start raw, front, taken),
       refl,
     )
+
+pub returns-in-Whole-default-eq0-clause-memory : goal.returns-in-Whole-default-eq0-clause-memory
+returns-in-Whole-default-eq0-clause-memory c room =
+    let piece = c.args.piece.now in
+    let z = c.split_at.result.0.now in
+    let y = c.split_at.result.1.now in
+    let sum : z ++ y ≡ piece = (λ i. c.split_at.ensures.front i ++ c.split_at.ensures.back i) ∙ take-append-drop c.line_length.result piece in
+    c.read_trailer.ensures.memory
+    (omega (arith, room, ap length c.in_default.ensures.ok, length-append c.args.raw.now.items z, ap length sum, length-append z y, c.grow.ensures.capacity))

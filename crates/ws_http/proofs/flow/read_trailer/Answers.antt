@@ -4,12 +4,12 @@ use Rattle.ws_http.specs.declared.chunk.Next.TheVariants as next
 use Rattle.ws_http.specs.declared.flow.Place.TheVariants as place
 use Rattle.ws_http.specs.declared.flow.DataEnd.TheVariants as end
 use Rattle.ws_http.specs.Chunks.{TrailerNext}
-use Rattle.ws_http.specs.ResponseData.{IsDataEnd}
+use Rattle.ws_http.specs.FlowEnds.{IsDataEnd}
 use Rattle.ws_http.proofs.FlowLemmas.{trailer_open, trailer_wrong, trailer_last}
 use Rattle.ws_http.proofs.flow.read_trailer.Goals as goal
 
 pub returns-in-Open-clause-ends : goal.returns-in-Open-clause-ends
-returns-in-Open-clause-ends c need came body room k =
+returns-in-Open-clause-ends c quota came body k =
     let start = c.args.start in
     let raw = c.args.raw.now.items in
     let held = drop start raw in
@@ -20,11 +20,11 @@ returns-in-Open-clause-ends c need came body room k =
     let all = c.held-open.ensures ∙ ap (λ (t : List ℕ). drop start t) c.deref.ensures.value ∙ now in
     let after = c.split_at.ensures.back ∙ ap (λ (t : List ℕ). drop c.args.len t) all in
     let t = subst (λ (t : List ℕ). TrailerNext c.args.len t next.Open) after c.in-Open.ensures.value in
-    subst (λ (t : List ℕ). IsDataEnd need (came ++ z) t body (end.Open (record { place = place.Line; count = p.count + length z; size = p.size }))) (sym now)
-    (trailer_open need came held body p k c.requires.at_line z c.args.len c.requires.line t)
+    subst (λ (t : List ℕ). IsDataEnd quota (came ++ z) t body (end.Open (record { place = place.Line; count = p.count + length z; size = p.size }))) (sym now)
+    (trailer_open quota came held body p k c.requires.at_line z c.args.len c.requires.line t)
 
 pub returns-in-Last-clause-ends : goal.returns-in-Last-clause-ends
-returns-in-Last-clause-ends c need came body room k =
+returns-in-Last-clause-ends c quota came body k =
     let start = c.args.start in
     let raw = c.args.raw.now.items in
     let held = drop start raw in
@@ -35,7 +35,7 @@ returns-in-Last-clause-ends c need came body room k =
     let all = c.held-open.ensures ∙ ap (λ (t : List ℕ). drop start t) c.deref.ensures.value ∙ now in
     let after = c.split_at.ensures.back ∙ ap (λ (t : List ℕ). drop c.args.len t) all in
     let t = subst (λ (t : List ℕ). TrailerNext c.args.len t (next.Last c.in-Last.used)) after c.in-Last.ensures.value in
-    trailer_last need came held body p k c.requires.at_line z c.args.len c.requires.line held
+    trailer_last quota came held body p k c.requires.at_line z c.args.len c.requires.line held
     (p.count + length z - length c.held-open.result.now + c.in-Last.used) c.in-Last.used t
     (ap (λ (j : ℕ). p.count + length z - j + c.in-Last.used) (ap length all))
     (omega (
@@ -53,7 +53,7 @@ returns-in-Last-clause-ends c need came body room k =
     ))
 
 pub returns-in-Wrong-clause-ends : goal.returns-in-Wrong-clause-ends
-returns-in-Wrong-clause-ends c need came body room k =
+returns-in-Wrong-clause-ends c quota came body k =
     let start = c.args.start in
     let raw = c.args.raw.now.items in
     let held = drop start raw in
@@ -64,4 +64,4 @@ returns-in-Wrong-clause-ends c need came body room k =
     let all = c.held-open.ensures ∙ ap (λ (t : List ℕ). drop start t) c.deref.ensures.value ∙ now in
     let after = c.split_at.ensures.back ∙ ap (λ (t : List ℕ). drop c.args.len t) all in
     let t = subst (λ (t : List ℕ). TrailerNext c.args.len t next.Wrong) after c.in-Wrong.ensures.value in
-    trailer_wrong need came held body p k c.requires.at_line z c.args.len c.requires.line held t
+    trailer_wrong quota came held body p k c.requires.at_line z c.args.len c.requires.line held t

@@ -2,7 +2,8 @@ use Rattle.std.proofs.Common.{ℕ, List, [], ◌++◌, length, take, sym, ap, �
 use Rattle.ws_http.specs.declared.flow.Point.{Point}
 use Rattle.ws_http.specs.ResponseStages.{Chunking, Stands, room_of}
 use Rattle.ws_http.proofs.ReplyStageLemmas.{start_small}
-use Rattle.ws_http.proofs.ReplyChunkLemmas.{chunking_begins, heads_and_piece}
+use Rattle.ws_http.proofs.ReaderLemmas.{heads_and_piece}
+use Rattle.ws_http.proofs.ReplyChunkLemmas.{chunking_begins}
 use Rattle.ws_http.proofs.reply_chunks.begin_chunks.Goals as goal
 
 pub split_at-requires : goal.split_at-requires

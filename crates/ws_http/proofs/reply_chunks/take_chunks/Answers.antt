@@ -1,16 +1,9 @@
-use Rattle.std.proofs.Common.{◌-◌, ◌++◌, length, drop, ap, arith, length-append, length-take}
+use Rattle.std.proofs.Common.{◌-◌, ◌++◌, length, drop, sym, ap, arith, length-append, length-take}
+use Rattle.std.specs.Vec.{vec_capacity}
+use Rattle.std.proofs.lemmas.Bool.{false≢true}
+use Rattle.ws_http.proofs.FlowLemmas.{full_by, part_most}
 use Rattle.ws_http.proofs.ReplyChunkLemmas.{over_stands, wrong_stands, past_stands, open_stands, still_chunking, last_stands, last_ready, last_small, chunking_short}
 use Rattle.ws_http.proofs.reply_chunks.take_chunks.Goals as goal
-
-pub read_data-requires-clause-room : goal.read_data-requires-clause-room
-read_data-requires-clause-room c part =
-    omega (
-      arith,
-      c.requires.kept part,
-      ap length c.first-part.ensures,
-      length-take (8388608 - c.args.point.count) c.args.piece.now,
-      chunking_short c.args.need c.args.raw.now.items c.args.body.now.items c.args.head c.args.point c.requires.live.0 c.requires.live.1,
-    )
 
 pub overflow_add-result : goal.overflow_add-result
 overflow_add-result c =
@@ -132,7 +125,16 @@ returns-in-Last-clause-short c =
     )
 
 pub returns-in-NoMemory-clause-ready : goal.returns-in-NoMemory-clause-ready
-returns-in-NoMemory-clause-ready c = c.in-NoMemory.ensures.ends (drop c.args.head.start c.requires.live.0) c.requires.live.1.flows
+returns-in-NoMemory-clause-ready c =
+    full_by c.args.need (λ part. false≢true (sym (c.in-NoMemory.ensures.memory
+    (omega (
+      arith,
+      c.requires.kept part,
+      ap length c.first-part.ensures,
+      length-take (8388608 - c.args.point.count) c.args.piece.now,
+      chunking_short c.args.need c.args.raw.now.items c.args.body.now.items c.args.head c.args.point c.requires.live.0 c.requires.live.1,
+    ))
+    (part_most c.args.need (vec_capacity c.args.body.now) part (c.requires.fits part)))))
 
 pub returns-in-NoMemory-clause-short : goal.returns-in-NoMemory-clause-short
 returns-in-NoMemory-clause-short c =

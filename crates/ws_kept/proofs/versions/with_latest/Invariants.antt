@@ -13,5 +13,5 @@ invariant-loop-event l =
     record {
       so_far : (h : List Event) (since : ℕ) → StandsFor h since l.tables → Legal h
           → (v : ℕ) → (contains nat_cmp l.versions v || list_any (λ e. gives_latest h v e.what) (drop l.event-index l.events))
-              ≡ (contains nat_cmp l.fn.first v || list_any (λ e. gives_latest h v e.what) l.events);
+          ≡ (contains nat_cmp l.fn.first v || list_any (λ e. gives_latest h v e.what) l.events);
     }

@@ -1,7 +1,7 @@
 use Rattle.std.proofs.Common.{◌≡◌, ◌+◌, List, [], ◌∷◌, ◌++◌, drop, ap, sym, subst, ◌∙◌, arith}
 use Rattle.std.proofs.lemmas.List.{drop_all, drop_more}
 use Rattle.ws_model.specs.declared.event.Event.{Event}
-use Rattle.ws_sift.specs.Sifted.{ArePast, is_kept_other}
+use Rattle.ws_sift.specs.Sifted.{is_kept_other}
 use Rattle.ws_sift.proofs.Logged.{Next, Sifts, begun, ended, kept_light, next}
 use Rattle.ws_sift.proofs.sift.kept_events.Goals as goal
 use Rattle.ws_sift.proofs.sift.kept_events.Goals.{then-is_kept+in_ok-restored+in_ok-push, else-is_kept}

@@ -1,21 +1,18 @@
-use Rattle.std.proofs.Common.{◌≡◌, ◌≤◌, ℕ, List, ap, arith, sym, true, ◌∙◌, ◌&&◌, ◌||◌}
+use Rattle.std.proofs.Common.{◌≡◌, ◌≤◌, ℕ, ap, arith, sym, true, ◌∙◌, ◌&&◌, ◌||◌}
 use Rattle.std.specs.Prelude.{nat_lt, ◌==◌}
 use Rattle.std.specs.BTreeSet.{contains}
 use Rattle.std.specs.List.{list_any}
 use Rattle.std.specs.Ordering.{nat_cmp}
-use Rattle.ws_model.specs.declared.event.Event.{Event}
+use Rattle.std.proofs.Math.Bool.{or_comm}
 use Rattle.ws_model.specs.Keep.{first_kept, member}
-use Rattle.ws_model.specs.Legal.{Legal, number_limit}
+use Rattle.ws_model.specs.Legal.{number_limit}
 use Rattle.ws_model.specs.Moment.{last_time}
 use Rattle.ws_model.specs.Pairs.{owed}
 use Rattle.ws_model.specs.Verdict.{is_kept_version}
-use Rattle.ws_fate.specs.Stands.{AreShown}
-use Rattle.ws_core_tables.specs.Stands.{StandsFor as TablesStand}
 use Rattle.ws_kept.specs.Finding.{gives_latest, gives_lease, goes_on, is_latest, went_over, with_old_ones}
-use Rattle.ws_kept.specs.Stands.{log_of, renewals}
 use Rattle.ws_kept.proofs.First.{first_logged}
 use Rattle.ws_kept.proofs.Latest.{latest_logged}
-use Rattle.ws_kept.proofs.Lists.{contains_member, or_turned}
+use Rattle.ws_kept.proofs.Lists.{contains_member}
 use Rattle.ws_kept.proofs.Renewed.{passed}
 use Rattle.ws_kept.proofs.WentOver.{went, went_is}
 use Rattle.ws_kept.proofs.kept.Kept.of.Goals as goal
@@ -29,7 +26,7 @@ returns c =
           let kept : (v : ℕ) → contains nat_cmp c.in_ok-versions.versions v ≡ is_kept_version h c.args.t v = λ v.
           c.in_ok-versions.ensures.stands h since s l v
           ∙ (λ i. c.in_ok-owed.ensures.stands h since s shown l k v i || (ap (list_any (λ e. gives_latest h v e.what)) others ∙ latest_logged h v) i)
-          ∙ or_turned (list_any (λ p. p.version.ver == v) (owed h c.args.t)) (is_latest h v) in
+          ∙ or_comm (list_any (λ p. p.version.ver == v) (owed h c.args.t)) (is_latest h v) in
           let first : (n : ℕ) → member n c.in_ok-first.first.keys ≡ member n (first_kept h c.args.t) = λ n.
           sym (contains_member c.in_ok-first.first n)
           ∙ c.in_ok-first.ensures.stands h since s l k n

@@ -1,0 +1,25 @@
+use Rattle.std.proofs.Common.{◌≡◌, true, refl, ap, ◌∙◌, ◌++◌, ◌∷◌, [], sym, subst}
+use Rattle.ws_tries.specs.Rows.{is_listed, tries_at}
+use Rattle.std.specs.Prelude.{cond, Some}
+use Rattle.ws_core.specs.Renewed.{listed}
+use Rattle.ws_core.specs.Rows.{Rows}
+use Rattle.ws_core.specs.Stands.{GoesOn, StandsFor}
+use Rattle.ws_core.proofs.Going.{other_goes, without_rooms}
+use Rattle.ws_core.proofs.whole.Core.apply_other.Goals as goal
+
+pub apply_with_rooms-requires-clause-new : goal.apply_with_rooms-requires-clause-new
+apply_with_rooms-requires-clause-new c v n k =
+    let f = c.requires.follows in
+    let inside = subst (StandsFor f.past f.since) (sym c.self.view_is) f.stands in
+    without_rooms c.args.event.now f.past c.in_ok-births.births.items f.since (record { ledger = c.self.inside.ledger; log = c.self.inside.log.items; renewals = c.self.inside.renewals.items; tries = c.self.inside.tries }) inside
+    (c.in_ok-births.ensures f.past f.since inside.ledger f.legal f.in_time) v n (subst (λ ps. is_listed v n ps ≡ true) c.deref.ensures.value k)
+
+pub returns-clause-ok : goal.returns-clause-ok
+returns-clause-ok c =
+    let old : Rows = record { ledger = c.self.inside.ledger; log = c.self.inside.log.items; renewals = c.self.inside.renewals.items; tries = c.self.inside.tries } in
+    let new : Rows = record { ledger = c.apply_with_rooms.new.ledger; log = c.push_reserved.new.self.items; renewals = c.add_reserved.new.renewals.items; tries = c.apply_with_rooms.new.tries } in
+    subst (λ (r : Rows). GoesOn c.args.event.now r new) c.self.view_is
+    (other_goes c.args.event.now c.in_ok-births.births.items c.renewal-renewal.result old new c.requires.other c.in_ok-apply_with_rooms.ensures.ledger c.in_ok-births.ensures c.renewal-renewal.ensures
+    (c.push_reserved.ensures.items ∙ (λ j. c.in_ok-reserve.ensures.items j ++ c.in_ok-entry.ensures j ∷ []))
+    (c.add_reserved.ensures ∙ ap (λ rs. rs ++ listed c.renewal-renewal.result) c.in_ok-reserve-2.ensures.items)
+    (λ v n. c.in_ok-apply_with_rooms.ensures.rooms v n ∙ ap (λ ps. cond (is_listed v n ps) (Some []) (tries_at v n c.self.inside.tries)) c.deref.ensures.value))

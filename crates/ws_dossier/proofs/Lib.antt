@@ -1,2 +1,0 @@
-pub mod Concerns
-pub mod Read

@@ -2,13 +2,12 @@
 
 use crate::applied::{TIME_LIMIT, after};
 use crate::examples::{MISSED, RENEWED, Step, played, push_due, stale, what};
+use Step::{Ask, AskFor, Confirm, Fetch, FetchUpto, Ping, Push, PushTo, Revoke};
 use check_histories::{CB, CC};
 use std::alloc::Global;
 use std::test::Fail;
 use ws_core::Core;
 use ws_model::{Cause, Event, Fate, How, NoMemory, Tally, What};
-
-use Step::{Ask, AskFor, Confirm, Fetch, FetchUpto, Ping, Push, PushTo, Revoke};
 
 /// A Tally where no pair is forgotten.
 const NONE_FORGOTTEN: Tally = Tally {
@@ -26,11 +25,7 @@ const NONE_FORGOTTEN: Tally = Tally {
 };
 
 // A Tally, and then these events, each with its serial and its time.
-fn listed(
-    alloc: Global,
-    tally: Tally,
-    steps: &[(u64, u64, Step)],
-) -> Result<Vec<Event>, NoMemory> {
+fn listed(alloc: Global, tally: Tally, steps: &[(u64, u64, Step)]) -> Result<Vec<Event>, NoMemory> {
     let mut events = Vec::new(alloc);
     events.push(Event {
         serial: 0,
@@ -151,7 +146,10 @@ fn compact_keeps_revocation(rt: HostRuntime) -> Result<(), Fail> {
     assert_eq!(rt; &kept(&core, 2_001)?[..], &wanted[..]);
     let compacted = compacted(alloc, &core, 2_001)?;
     assert_eq!(rt; sums(&compacted, 2_001)?, [0, 1, 1, 1, 1, 1]);
-    assert_eq!(rt; stale(alloc, &compacted, 2_001)?, Some(Fate::Ended(Cause::Revoked)));
+    assert_eq!(rt;
+        stale(alloc, &compacted, 2_001)?,
+        Some(Fate::Ended(Cause::Revoked))
+    );
     let owed = Some(Fate::Owed {
         tries: 0,
         next: 2_000,
@@ -185,7 +183,10 @@ fn compaction_keeps_replaced_lease(rt: HostRuntime) -> Result<(), Fail> {
     let wanted = listed(alloc, tally, &RENEWED_KEPT)?;
     assert_eq!(rt; &kept(&core, 2_042)?[..], &wanted[..]);
     let compacted = compacted(alloc, &core, 2_042)?;
-    assert_eq!(rt; stale(alloc, &compacted, 2_042)?, Some(Fate::Ended(Cause::Replaced)));
+    assert_eq!(rt;
+        stale(alloc, &compacted, 2_042)?,
+        Some(Fate::Ended(Cause::Replaced))
+    );
     assert_eq!(rt; push_due(alloc, &compacted, 2_042), Some((1, 2)));
     Ok(())
 }
@@ -213,7 +214,10 @@ fn stale_after_compaction(rt: HostRuntime) -> Result<(), Fail> {
     let wanted = listed(alloc, tally, &[(3, 1_010, Fetch(1))])?;
     assert_eq!(rt; &kept(&core, 1_060)?[..], &wanted[..]);
     let compacted = compacted(alloc, &core, 1_060)?;
-    assert_eq!(rt; stale(alloc, &compacted, 1_060)?, Some(Fate::Ended(Cause::Expired)));
+    assert_eq!(rt;
+        stale(alloc, &compacted, 1_060)?,
+        Some(Fate::Ended(Cause::Expired))
+    );
     assert_eq!(rt; compacted.fate(1, 1, 1_060), None);
     Ok(())
 }

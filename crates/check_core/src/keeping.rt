@@ -72,13 +72,7 @@ fn same_counts(core: &Core, compacted: &Core, t: u64) -> bool {
 }
 
 // Of all versions that were given, and of those about them.
-fn same_fates(
-    core: &Core,
-    compacted: &Core,
-    history: &History,
-    kept: &[PairFate],
-    t: u64,
-) -> bool {
+fn same_fates(core: &Core, compacted: &Core, history: &History, kept: &[PairFate], t: u64) -> bool {
     for ver in 0..=history.versions.saturating_add(1) {
         if !same_fates_of(core, compacted, ver, history.intents, kept, t) {
             return false;
@@ -96,7 +90,9 @@ fn same_fates_of(
     t: u64,
 ) -> bool {
     for lease in 0..=intents.saturating_add(1) {
-        let is_kept = kept.iter().any(|pair| pair.ver == ver && pair.lease == lease);
+        let is_kept = kept
+            .iter()
+            .any(|pair| pair.ver == ver && pair.lease == lease);
         let wanted = if is_kept {
             core.fate(ver, lease, t)
         } else {
@@ -110,25 +106,12 @@ fn same_fates_of(
 }
 
 // Whether a second compaction at the same time keeps all, and one that is later what it is to keep.
-fn keeps_again(
-    alloc: Global,
-    compacted: &Core,
-    kept: &[Event],
-    t: u64,
-) -> Result<bool, NoMemory> {
-    Ok(
-        keeps(compacted, kept, t)?
-            && keeps_of(alloc, compacted, kept, t.saturating_add(240))?,
-    )
+fn keeps_again(alloc: Global, compacted: &Core, kept: &[Event], t: u64) -> Result<bool, NoMemory> {
+    Ok(keeps(compacted, kept, t)? && keeps_of(alloc, compacted, kept, t.saturating_add(240))?)
 }
 
 /// Whether the core keeps at `t` of its history what the definitions keep.
-pub fn keeps_of(
-    alloc: Global,
-    core: &Core,
-    events: &[Event],
-    t: u64,
-) -> Result<bool, NoMemory> {
+pub fn keeps_of(alloc: Global, core: &Core, events: &[Event], t: u64) -> Result<bool, NoMemory> {
     keeps(core, &ws_plain::keep(alloc, events, t)?, t)
 }
 

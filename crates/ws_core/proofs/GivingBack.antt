@@ -1,6 +1,6 @@
 -- Rooms that are given back: the core stands as before, and they are gone.
 use Rattle.std.proofs.Common.{◌≡◌, ℕ, suc, ◌≤◌, ◌<◌, Bool, true, false, not, cond, ◌&&◌, ◌||◌, List, [], ◌∷◌, refl, ap, sym, ◌∙◌, subst, length, arith, inl, inr}
-use Rattle.std.specs.Prelude.{◌==◌, Option, Some, None, IfSome, IsSome, filter, is_some, nat_lt}
+use Rattle.std.specs.Prelude.{◌==◌, Option, Some, None, IfSome, filter, is_some, nat_lt}
 use Rattle.std.specs.List.{list_any}
 use Rattle.std.specs.Option.{option_map}
 use Rattle.std.proofs.lemmas.Bool.Decides.{nat_tests}
@@ -18,7 +18,7 @@ use Rattle.ws_compaction.proofs.Fetches.{any_more}
 use Rattle.ws_lease.proofs.SortedEntries.{any_filter}
 use Rattle.ws_fate.specs.declared.totals.Standing.{Standing}
 use Rattle.ws_fate.specs.declared.totals.Standing.TheVariants.{Open, Answered, Ended}
-use Rattle.ws_fate.specs.Rows.{is_open, standing_at}
+use Rattle.ws_fate.specs.Rows.{is_open}
 use Rattle.ws_fate.specs.Stands.{is_owed_at}
 use Rattle.ws_fate.specs.Totals.{standing}
 use Rattle.ws_tries.specs.declared.room.Try.{Try}
@@ -67,15 +67,15 @@ open_stays b true d k = absurd (false≢true (sym k))
 kept_stays : (h : List Event) (since t v : ℕ) (rows : LedgerRows) → LedgerStands h since rows → Legal h → since ≤ t → is_kept_version h t v ≡ true → is_past h rows v ≡ false
 kept_stays h since t v rows s l le k =
     elim (or_cases (is_latest h v) (list_any (λ p. p.version.ver == v) (owed h t)) k) [
-      inl a ↦ latest_stays (nat_lt v number_limit) (open_of v rows.fates == 0) (is_latest h v) a
-    | inr a ↦ open_stays (nat_lt v number_limit) (open_of v rows.fates == 0) (not (is_latest h v))
-              (some_pass (λ e. (e.0.1 == v) && is_open e.1) rows.fates.pairs
-              (any_more (owes h t v) (λ e. (e.0.1 == v) && is_open e.1)
-              (λ e b.
-              let p = and_parts (e.0.1 == v) (is_left_open e.1 && is_owed_at h t e.0.1 e.0.0) b in
-              let q = and_parts (is_left_open e.1) (is_owed_at h t e.0.1 e.0.0) p.1 in
-              and_from (e.0.1 == v) (is_open e.1) p.0 (same_open e.1 q.0))
-              rows.fates.pairs (owed_found h t v l rows.fates (λ w n. shown h since rows s t w n le) ∙ a)))
+      | inl a ↦ latest_stays (nat_lt v number_limit) (open_of v rows.fates == 0) (is_latest h v) a
+      | inr a ↦ open_stays (nat_lt v number_limit) (open_of v rows.fates == 0) (not (is_latest h v))
+          (some_pass (λ e. (e.0.1 == v) && is_open e.1) rows.fates.pairs
+          (any_more (owes h t v) (λ e. (e.0.1 == v) && is_open e.1)
+          (λ e b.
+          let p = and_parts (e.0.1 == v) (is_left_open e.1 && is_owed_at h t e.0.1 e.0.0) b in
+          let q = and_parts (is_left_open e.1) (is_owed_at h t e.0.1 e.0.0) p.1 in
+          and_from (e.0.1 == v) (is_open e.1) p.0 (same_open e.1 q.0))
+          rows.fates.pairs (owed_found h t v l rows.fates (λ w n. shown h since rows s t w n le) ∙ a)))
     ]
 
 -- ---- the core stands as before
@@ -185,7 +185,7 @@ by_off h t i o lease touched is off found same =
     subst (λ o. touched ≡ touched_by_end h t o) is
     (same ∙ ap of_lease found ∙ sym (ap (λ m. cond (is_on m) Nothing (of_lease (option_map (λ l. l.intent.n) (live_lease_of h t i.topic i.callback)))) off))
 
--- ---- the tests
+-- ---- the test
 
 pub past_is : (v : ℕ) (o : ℕ) (latest told : Bool) → v < number_limit → o ≤ 0 → told ≡ latest → not told ≡ (nat_lt v number_limit && ((o == 0) && not latest))
 past_is v o latest told low none is = ap not is ∙ by (nat_lt v number_limit) (o == 0) (grind (arith, nat_tests)) (grind (arith, nat_tests))
@@ -194,18 +194,3 @@ past_is v o latest told low none is = ap not is ∙ by (nat_lt v number_limit) (
     by true true k l = refl
     by false c k l = absurd (false≢true k)
     by true false k l = absurd (false≢true l)
-
-pub too_high : (v : ℕ) (b : Bool) → number_limit ≤ v → false ≡ (nat_lt v number_limit && b)
-too_high v b k = by (nat_lt v number_limit) (grind (arith, nat_tests))
-  where
-    by : (c : Bool) → c ≡ false → false ≡ (c && b)
-    by false k = refl
-    by true k = absurd (false≢true (sym k))
-
-pub still_open : (b : Bool) (o : ℕ) (d : Bool) → 0 < o → false ≡ (b && ((o == 0) && d))
-still_open b o d k = by b (o == 0) (grind (arith, nat_tests))
-  where
-    by : (b c : Bool) → c ≡ false → false ≡ (b && (c && d))
-    by true false k = refl
-    by false c k = refl
-    by true true k = absurd (false≢true (sym k))

@@ -1,4 +1,4 @@
-use Rattle.std.proofs.Common.{◌≡◌, ◌≤◌, ◌<◌, ap, sym, subst, ◌∙◌, arith}
+use Rattle.std.proofs.Common.{◌≡◌, ap, sym, subst, ◌∙◌, arith}
 use Rattle.ws_core_tables.specs.Stands.{StandsFor as TablesStand}
 use Rattle.ws_kept.specs.Finding.{is_latest}
 use Rattle.ws_core.specs.GivenBack.{open_of}

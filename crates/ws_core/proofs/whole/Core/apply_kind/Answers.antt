@@ -1,4 +1,4 @@
-use Rattle.std.proofs.Common.{◌∙◌, sym, subst}
+use Rattle.std.proofs.Common.{sym, subst}
 use Rattle.ws_model.specs.declared.event.Event.{Event}
 use Rattle.ws_core.specs.GivenBack.{RoomsAreGone}
 use Rattle.ws_core.specs.Stands.{GoesOn}

@@ -1,4 +1,4 @@
-use Rattle.std.proofs.Common.{◌≡◌, true, refl, ap, ◌∙◌, ◌++◌, ◌∷◌, [], sym, subst}
+use Rattle.std.proofs.Common.{◌≡◌, true, ap, ◌∙◌, ◌++◌, ◌∷◌, [], sym, subst}
 use Rattle.ws_tries.specs.Rows.{is_listed, tries_at}
 use Rattle.std.specs.Prelude.{cond, Some}
 use Rattle.ws_core.specs.GivenBack.{RoomsAreGone, is_meant}

@@ -1,8 +1,8 @@
 #!/bin/bash
-# Measures the core by bench_core: the time of one event, which the core accepts and applies, and of one
-# asking call where 1,000, 10,000 and 100,000 leases are held, with ten owed pairs each, the least of five
-# runs in nanoseconds, and its ratios between the sizes; then the memory of 262,144 leases, and of 1,048,576
-# owed pairs beside them. Wants the kit's rt and /usr/bin/time.
+# Measures the core by bench_core: the time of one event, which the core accepts and applies, of one asking
+# call, and of one event that a compaction keeps, where 1,000, 10,000 and 100,000 leases are held, with ten
+# owed pairs each, the least of five runs in nanoseconds, and its ratios between the sizes; then the memory of
+# 262,144 leases, and of 1,048,576 owed pairs beside them. Wants the kit's rt and /usr/bin/time.
 set -euo pipefail
 top=$(cd "$(dirname "$0")/.." && pwd)
 room=$(mktemp -d)

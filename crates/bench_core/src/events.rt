@@ -3,9 +3,9 @@ ghost use Rattle.std.specs.Prelude.{OnOk};
 ghost use Rattle.ws_core.specs.Follows.{HasHistory};
 
 use crate::asking::measure_asking;
-use crate::filling::{fill, happen_all};
+use crate::filling::{fill, happen_all, miss_all};
 use crate::made::{Step, spread, what};
-use crate::{CALLS, row};
+use crate::{CALLS, NOW, row, row_of};
 use anyhow::Result;
 use std::alloc::Global;
 use std::rt::Clock;
@@ -56,7 +56,24 @@ pub fn measure(rt: &(impl Clock + Print), alloc: Global, size: u64) -> Result<()
     measure_asking(rt, alloc, &core, size)?;
     measure_intents(rt, alloc, &mut core, size)?;
     measure_topics(rt, alloc, &mut core, size)?;
-    measure_leases(rt, alloc, &mut core, size)
+    measure_leases(rt, alloc, &mut core, size)?;
+    measure_keeping(rt, alloc, &mut core, size)
+}
+
+// A compaction, by the events that it keeps: the two of each lease, its versions, and about one missed push
+// of each.
+fn measure_keeping(
+    rt: &(impl Clock + Print),
+    alloc: Global,
+    core: &mut Core,
+    size: u64,
+) -> Result<()>
+    requires { HasHistory core.old }
+{
+    miss_all(alloc, core, size)?;
+    let start = Instant::now(rt)?;
+    let kept = core.keep(NOW)?.len() as u64;
+    row_of(rt, size, "keep/event", start, kept, kept)
 }
 
 fn measure_intents(

@@ -6,7 +6,7 @@ use crate::made::{Step, fetched, what};
 use crate::{EACH, NOW};
 use std::alloc::Global;
 use ws_core::Core;
-use ws_model::{Event, NoMemory, What};
+use ws_model::{Event, How, NoMemory, What};
 
 /// Applies this under the next serial, where the core accepts it.
 fn happen(core: &mut Core, what: What) -> Result<bool, NoMemory>
@@ -60,6 +60,17 @@ fn make_versions(alloc: Global, core: &mut Core, topics: u64, pairs: u64) -> Res
             core,
             fetched(alloc, at.saturating_add(1), at % topics.max(1))?,
         )?;
+    }
+    Ok(())
+}
+
+/// Misses the first version of each lease once, where it is owed.
+pub fn miss_all(alloc: Global, core: &mut Core, size: u64) -> Result<(), NoMemory>
+    requires { HasHistory core.old }
+    ensures { OnOk result (HasHistory core.new) }
+{
+    for lease in 1..=size {
+        let _ = happen(core, what(alloc, Step::Pushed(How::Missed(503)), 0, lease)?)?;
     }
     Ok(())
 }

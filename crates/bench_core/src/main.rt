@@ -1,6 +1,7 @@
 //! Measures the core: `bench_core LEASES..` prints lines `LEASES CALL NANOSECONDS ANSWERS`, the time of one
-//! event or of one asking call where so many leases are held, with ten owed pairs each; `bench_core memory
-//! LEASES PAIRS` fills a core, so many pairs to each lease, and prints nothing.
+//! event, of one asking call or of one event that a compaction keeps, where so many leases are held, with ten
+//! owed pairs each; `bench_core memory LEASES PAIRS` fills a core, so many pairs to each lease, and prints
+//! nothing.
 //!
 //! `bench/core.sh` runs it and prints ratios. Without words it does nothing.
 #![tactic(auto)]
@@ -59,7 +60,19 @@ pub fn row(
     start: Instant,
     answers: u64,
 ) -> Result<()> {
-    let spent = start.elapsed(rt)?.as_nanos() / u128::from(CALLS);
+    row_of(rt, size, name, start, CALLS, answers)
+}
+
+/// Prints the time of one of so many calls, or of one of so many events that a call gives.
+pub fn row_of(
+    rt: &(impl Clock + Print),
+    size: u64,
+    name: &str,
+    start: Instant,
+    parts: u64,
+    answers: u64,
+) -> Result<()> {
+    let spent = start.elapsed(rt)?.as_nanos() / u128::from(parts.max(1));
     println!(rt; "{size} {name} {spent} {answers}")?;
     Ok(())
 }

@@ -1,4 +1,4 @@
-// Histories worked out by hand, on the core. Each is of one topic, and its leases are long.
+// Histories worked out by hand, on the core. Each is of one topic.
 
 use crate::applied::{TIME_LIMIT, after};
 use check_histories::{CB, X, asked, bytes, fetched, happen, pinged, unfetched};
@@ -11,25 +11,34 @@ use ws_model::{Cause, Event, Fate, Held, How, NoMemory, Outcome, Reply, Settled,
 /// What a callback answers to confirm.
 pub const CHALLENGE: &[u8; 40] = b"0000000000000000000000000000000000000001";
 
-/// What happens, in short. A push is of a version to lease 1.
+/// What happens, in short. Where the step doesn't say so, leases are long, a fetch gives what was there at
+/// serial 1, and a push is to lease 1.
 #[derive(Clone, Copy)]
 pub enum Step {
     Ask(u64, &'static str),
+    /// So many seconds are granted.
+    AskFor(u64, &'static str, u32),
     Confirm(u64),
     Revoke(u64),
     Ping,
     Fetch(u64),
+    /// A version, of what was there at a serial.
+    FetchUpto(u64, u64),
     Unfetched,
     Push(u64, How),
+    /// A version to a lease.
+    PushTo(u64, u64, How),
 }
 
-use Step::{Ask, Confirm, Fetch, Ping, Push, Revoke, Unfetched};
+use Step::{Ask, AskFor, Confirm, Fetch, FetchUpto, Ping, Push, PushTo, Revoke, Unfetched};
 
-const MISSED: How = How::Missed(503);
+pub const MISSED: How = How::Missed(503);
 
-fn what(alloc: Global, step: Step, t: u64) -> Result<What, NoMemory> {
+/// What a step at `t`, in seconds, is.
+pub fn what(alloc: Global, step: Step, t: u64) -> Result<What, NoMemory> {
     match step {
         Ask(n, callback) => asked(alloc, n, X, callback, 864_000),
+        AskFor(n, callback, granted) => asked(alloc, n, X, callback, granted),
         Confirm(n) => Ok(What::Confirmed { n, sent: t }),
         Revoke(n) => {
             let reason = bytes(alloc, "subscription revoked")?;
@@ -37,8 +46,10 @@ fn what(alloc: Global, step: Step, t: u64) -> Result<What, NoMemory> {
         }
         Ping => pinged(alloc, X),
         Fetch(ver) => fetched(alloc, ver, X, 1),
+        FetchUpto(ver, upto) => fetched(alloc, ver, X, upto),
         Unfetched => unfetched(alloc, X, 1),
         Push(ver, how) => Ok(What::Pushed { ver, lease: 1, how }),
+        PushTo(ver, lease, how) => Ok(What::Pushed { ver, lease, how }),
     }
 }
 
@@ -77,8 +88,8 @@ fn settled(alloc: Global, core: &Core, t: u64, ver: u64, code: u16) -> Result<Se
     core.settle(t, &push, t, CHALLENGE, &outcome)
 }
 
-// Why a push of version 1 to lease 1 is stale that is answered 200, where it is.
-fn stale(alloc: Global, core: &Core, t: u64) -> Result<Option<Fate>, NoMemory> {
+/// Why a push of version 1 to lease 1 is stale that is answered 200, where it is.
+pub fn stale(alloc: Global, core: &Core, t: u64) -> Result<Option<Fate>, NoMemory> {
     match settled(alloc, core, t, 1, 200)? {
         Settled::Stale(fate) => Ok(Some(fate)),
         Settled::Event(_) => Ok(None),
@@ -99,8 +110,8 @@ fn ended_push(
     }
 }
 
-// The push that is due first, as its version and its lease.
-fn push_due(alloc: Global, core: &Core, t: u64) -> Option<(u64, u64)> {
+/// The push that is due first, as its version and its lease.
+pub fn push_due(alloc: Global, core: &Core, t: u64) -> Option<(u64, u64)> {
     match core.due(t, &Held::empty(alloc)) {
         Some(DueWork::Push { ver, lease }) => Some((ver, lease)),
         _ => None,
@@ -135,8 +146,8 @@ fn fate_of_unborn_pair(rt: HostRuntime) -> Result<(), Fail> {
     Ok(())
 }
 
-// A push is drawn at 2040 and is in flight when the lease is renewed.
-const RENEWED: [(u64, Step); 7] = [
+/// A push is drawn at 2040 and is in flight when the lease is renewed.
+pub const RENEWED: [(u64, Step); 7] = [
     (1_000, Ask(1, CB)),
     (1_000, Confirm(1)),
     (2_000, Fetch(1)),

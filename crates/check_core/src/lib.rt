@@ -5,6 +5,10 @@
 #[cfg(test)]
 mod applied;
 #[cfg(test)]
+mod compacted;
+#[cfg(test)]
+mod compactions;
+#[cfg(test)]
 mod due;
 #[cfg(test)]
 mod examples;
@@ -12,6 +16,8 @@ mod examples;
 mod fetches;
 #[cfg(test)]
 mod generated;
+#[cfg(test)]
+mod keeping;
 #[cfg(test)]
 mod moment;
 #[cfg(test)]

@@ -12,6 +12,8 @@ mod giving_back;
 mod keeping;
 mod looking;
 mod settling;
+#[cfg(test)]
+mod tests;
 mod whole;
 
 pub use whole::Core;

@@ -1,5 +1,5 @@
 -- The core over an event, and over several that make and end no pair.
-use Rattle.std.proofs.Common.{◌≡◌, ℕ, suc, ◌+◌, ◌≤◌, ◌<◌, Bool, true, false, cond, ◌&&◌, List, [], ◌∷◌, ◌++◌, refl, ap, sym, ◌∙◌, subst, length, arith}
+use Rattle.std.proofs.Common.{◌≡◌, ℕ, suc, ◌+◌, ◌≤◌, ◌<◌, Bool, true, false, cond, List, [], ◌∷◌, ◌++◌, refl, ap, sym, ◌∙◌, subst, length, arith}
 use Rattle.std.specs.Prelude.{is_some, reverse, Option, Some, None}
 use Rattle.std.specs.List.{list_all}
 use Rattle.std.proofs.lemmas.Bool.{and_parts, false≢true}
@@ -20,7 +20,7 @@ use Rattle.ws_core_tables.specs.Committing.{committed, numbered}
 use Rattle.ws_ledger.specs.Births.{AreBirths, FindsBirths, FindsRenewal, makes_pairs}
 use Rattle.ws_ledger.specs.Committing.{AllGoOn as LedgerAllGoOn, are_quiet}
 use Rattle.ws_ledger.specs.Stands.{GoesOn as LedgerGoesOn}
-use Rattle.ws_ledger.proofs.NewPairs.{by_none, nothing_born}
+use Rattle.ws_ledger.proofs.NewPairs.{nothing_born}
 use Rattle.ws_ledger.proofs.Together.{legal_past}
 use Rattle.ws_core.specs.Committing.{AllGoOn}
 use Rattle.ws_core.specs.Renewed.{listed}

@@ -1,4 +1,4 @@
-use Rattle.std.proofs.Common.{◌≡◌, ◌+◌, ◌≤◌, refl, ap, ◌∙◌, ◌++◌, length, sym, subst}
+use Rattle.std.proofs.Common.{◌+◌, ◌≤◌, refl, ap, ◌∙◌, ◌++◌, length, sym, subst}
 use Rattle.ws_core.specs.Committing.{AllGoOn}
 use Rattle.ws_core.specs.Rows.{Rows}
 use Rattle.ws_core.specs.Stands.{StandsFor}

@@ -1,38 +1,52 @@
 // A whole copy and a light one of a fetched version.
 use crate::{copy_event, light_copy};
+use std::alloc::Global;
 use std::test::Fail;
-use ws_model::{Bytes, Event, Version, What};
+use ws_model::{Bytes, Event, NoMemory, Version, What};
+
+// A fetched version with these four texts: topic, type, link and body.
+fn fetched(alloc: Global, texts: [&[u8]; 4]) -> Result<Event, NoMemory> {
+    let [topic, media, own_link, body] = texts;
+    let version = Version {
+        ver: 3,
+        topic: Bytes::copy(alloc, topic)?,
+        upto: 5,
+        media: Bytes::copy(alloc, media)?,
+        own_link: Bytes::copy(alloc, own_link)?,
+        body: Bytes::copy(alloc, body)?,
+    };
+    Ok(Event {
+        serial: 7,
+        t: 60,
+        what: What::Fetched(version),
+    })
+}
+
+fn news(alloc: Global) -> Result<Event, NoMemory> {
+    fetched(
+        alloc,
+        [
+            b"http://p.example/",
+            b"text/plain",
+            b"http://p.example/own",
+            b"news",
+        ],
+    )
+}
+
+fn whole_is_same(alloc: Global) -> Result<bool, NoMemory> {
+    let event = news(alloc)?;
+    Ok(copy_event(alloc, &event)? == event)
+}
+
+fn light_has_no_text(alloc: Global) -> Result<bool, NoMemory> {
+    let light = light_copy(alloc, &news(alloc)?)?;
+    Ok(light == fetched(alloc, [b"", b"", b"", b""])?)
+}
 
 #[test]
-fn light_copy_has_no_body(rt: HostRuntime) -> Result<(), Fail> {
-    let alloc = rt.alloc();
-    let event = Event {
-        serial: 7,
-        t: 60,
-        what: What::Fetched(Version {
-            ver: 3,
-            topic: Bytes::copy(alloc, b"http://p.example/")?,
-            upto: 5,
-            media: Bytes::copy(alloc, b"text/plain")?,
-            own_link: Bytes::copy(alloc, b"http://p.example/own")?,
-            body: Bytes::copy(alloc, b"news")?,
-        }),
-    };
-    let whole = copy_event(alloc, &event)?;
-    assert!(rt; whole == event);
-    let light = Event {
-        serial: 7,
-        t: 60,
-        what: What::Fetched(Version {
-            ver: 3,
-            topic: Bytes::copy(alloc, b"")?,
-            upto: 5,
-            media: Bytes::copy(alloc, b"")?,
-            own_link: Bytes::copy(alloc, b"")?,
-            body: Bytes::copy(alloc, b"")?,
-        }),
-    };
-    let copied = light_copy(alloc, &event)?;
-    assert!(rt; copied == light);
+fn copies_of_a_version(rt: HostRuntime) -> Result<(), Fail> {
+    assert!(rt; whole_is_same(rt.alloc())?);
+    assert!(rt; light_has_no_text(rt.alloc())?);
     Ok(())
 }

@@ -35,7 +35,7 @@ use Rattle.ws_kept.specs.Finding.{is_replaced, went_over}
 use Rattle.ws_kept.proofs.Owed.{shown_any}
 use Rattle.ws_ledger.specs.Rows.{Rows as LedgerRows}
 use Rattle.ws_ledger.specs.Stands.{StandsFor as LedgerStands, kept}
-use Rattle.ws_core.specs.GivenBack.{is_gone}
+use Rattle.ws_core.specs.GivenBack.{is_gone, is_over}
 
 -- the intent of a live lease tells that there is one
 pub told_by_intent : (n : ℕ) (ls : List Lease) (o : Option Intent) → o ≡ option_map (λ l. l.intent) (find (λ l. l.intent.n == n) ls) → is_some o ≡ has_number n ls
@@ -44,6 +44,38 @@ told_by_intent n ls o k = ap is_some k ∙ same (find (λ l. l.intent.n == n) ls
     same : (o : Option Lease) → is_some (option_map (λ l. l.intent) o) ≡ is_some o
     same None = refl
     same (Some l) = refl
+
+-- ---- the test
+
+pub over_now : (h : List Event) (t n : ℕ) (lives noticed : Bool) → time h ≡ t → lives ≡ has_number n (live h (time h)) → lives ≡ false → noticed ≡ is_among (notices h) n → not noticed ≡ is_over h t n
+over_now h t n lives noticed now is dead owed = by (time h == t) (has_number n (live h t)) noticed (is_among (notices h) n) (same (time h) t now) (ap (λ u. has_number n (live h u)) (sym now) ∙ sym is ∙ dead) owed
+  where
+    same : (a b : ℕ) → a ≡ b → (a == b) ≡ true
+    same a b k = ap (λ c. a == c) (sym k) ∙ itself a
+
+    by : (a b c d : Bool) → a ≡ true → b ≡ false → c ≡ d → not c ≡ (a && not b && not d)
+    by true false c d k l m = ap not m
+    by false b c d k l m = absurd (false≢true k)
+    by true true c d k l m = absurd (false≢true (sym l))
+
+pub still_lives : (h : List Event) (t n : ℕ) (lives : Bool) → time h ≡ t → lives ≡ has_number n (live h (time h)) → lives ≡ true → false ≡ is_over h t n
+still_lives h t n lives now is lives_on = by (time h == t) (has_number n (live h t)) (not (is_among (notices h) n)) (ap (λ u. has_number n (live h u)) (sym now) ∙ sym is ∙ lives_on)
+  where
+    by : (a b c : Bool) → b ≡ true → false ≡ (a && not b && c)
+    by true true c k = refl
+    by false true c k = refl
+    by a false c k = absurd (false≢true k)
+
+pub other_time : (h : List Event) (t n : ℕ) → (time h == t) ≡ false → false ≡ is_over h t n
+other_time h t n k = ap (λ a. a && not (has_number n (live h t)) && not (is_among (notices h) n)) (sym k)
+
+pub gone_by : (over told went : Bool) → told ≡ over → told ≡ true → not went ≡ (over && not went)
+gone_by true told went k l = refl
+gone_by false told went k l = absurd (false≢true (sym k ∙ l))
+
+pub not_over : (over told went : Bool) → told ≡ over → told ≡ false → false ≡ (over && not went)
+not_over false told went k l = refl
+not_over true told went k l = absurd (false≢true (sym l ∙ k))
 
 -- ---- the members of a list, and the pairs of a history further back
 

@@ -187,7 +187,10 @@ fn is_gone(ledger: &Ledger, lease: u64, t: u64) -> bool
     requires { lease < 2 ^ 63 }
     ensures stands { (h : List Event) (since : ℕ) → LedgerStands h since ledger.now → Legal h → since ≤ t → result ≡ is_gone h t ledger.now.fates lease }
 {
-    is_over(ledger.tables(), lease, t) && !went_over(ledger.fates(), lease)
+    if !is_over(ledger.tables(), lease, t) {
+        return false;
+    }
+    !went_over(ledger.fates(), lease)
 }
 
 /// Whether a lease isn't live at `t`, and no notice of it is owed. Where `t` isn't the greatest time so far it
@@ -195,7 +198,13 @@ fn is_gone(ledger: &Ledger, lease: u64, t: u64) -> bool
 fn is_over(tables: &Tables, lease: u64, t: u64) -> bool
     ensures stands { (h : List Event) (since : ℕ) → TablesStand h since tables.now → Legal h → since ≤ t → result ≡ is_over h t lease }
 {
-    tables.time() == t && !is_live(tables, lease) && !is_noticed(tables, lease)
+    if tables.time() != t {
+        return false;
+    }
+    if is_live(tables, lease) {
+        return false;
+    }
+    !is_noticed(tables, lease)
 }
 
 /// Whether a lease is live at the greatest time so far.

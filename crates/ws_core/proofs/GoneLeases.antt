@@ -58,13 +58,8 @@ over_now h t n lives noticed now is dead owed = by (time h == t) (has_number n (
     by false b c d k l m = absurd (false≢true k)
     by true true c d k l m = absurd (false≢true (sym l))
 
-pub still_lives : (h : List Event) (t n : ℕ) (lives : Bool) → time h ≡ t → lives ≡ has_number n (live h (time h)) → lives ≡ true → false ≡ is_over h t n
-still_lives h t n lives now is lives_on = by (time h == t) (has_number n (live h t)) (not (is_among (notices h) n)) (ap (λ u. has_number n (live h u)) (sym now) ∙ sym is ∙ lives_on)
-  where
-    by : (a b c : Bool) → b ≡ true → false ≡ (a && not b && c)
-    by true true c k = refl
-    by false true c k = refl
-    by a false c k = absurd (false≢true k)
+pub not_later : (since t now : ℕ) → now ≡ t → since ≤ t → since ≤ now
+not_later since t now k le = subst (λ u. since ≤ u) (sym k) le
 
 pub other_time : (h : List Event) (t n : ℕ) → (time h == t) ≡ false → false ≡ is_over h t n
 other_time h t n k = ap (λ a. a && not (has_number n (live h t)) && not (is_among (notices h) n)) (sym k)
@@ -108,10 +103,10 @@ module _ (h : List Event) (t : ℕ) (n : ℕ) (rows : LedgerRows) (s : LedgerSta
       and_from _ _ (ap (λ m. m == n) (eqb-true e.0.0 p.lease.intent.n c.0) ∙ number) (and_from _ _ b.1 refl))
       rows.fates.pairs
       (shown_any p.lease.intent.n p.version.ver is_replaced (Ended Replaced) rows.fates.pairs
-      (s.shows t p.version.ver p.lease.intent.n (not_later t) ∙ ap (λ o. option_map kept (option_map standing (option_map (λ x. fate h x t) o))) turned.1 ∙ ap (λ f. Some (kept (standing f))) (turned.0 over)) refl)
+      (s.shows t p.version.ver p.lease.intent.n (itself_le t) ∙ ap (λ o. option_map kept (option_map standing (option_map (λ x. fate h x t) o))) turned.1 ∙ ap (λ f. Some (kept (standing f))) (turned.0 over)) refl)
     where
-      not_later : (m : ℕ) → m ≤ m
-      not_later m = omega arith
+      itself_le : (m : ℕ) → m ≤ m
+      itself_le m = omega arith
 
   module _ (versions : ℕ → Bool) (c : List Event) (e : Event) (g : List Event) (m : ℕ) (q : h ≡ c ++ e ∷ g) where
     all_turned : AllByRecursion Turned (owed g e.t)

@@ -166,7 +166,10 @@ pub(crate) fn give_back_pairs(ledger: &Ledger, tries: &mut Tries, touched: Touch
 fn give_back_pairs_of(ledger: &Ledger, tries: &mut Tries, lease: u64, t: u64)
     ensures { GivesBackPairs (Lease lease) t ledger.now tries.old tries.new }
 {
-    if lease < NUMBER_LIMIT && is_gone(ledger, lease, t) {
+    if lease >= NUMBER_LIMIT {
+        return;
+    }
+    if is_gone(ledger, lease, t) {
         give_back_all(ledger.fates(), tries, lease);
     }
 }

@@ -61,8 +61,12 @@ over_now h t n lives noticed now is dead owed = by (time h == t) (has_number n (
 pub not_later : (since t now : ℕ) → now ≡ t → since ≤ t → since ≤ now
 not_later since t now k le = subst (λ u. since ≤ u) (sym k) le
 
-pub other_time : (h : List Event) (t n : ℕ) → (time h == t) ≡ false → false ≡ is_over h t n
-other_time h t n k = ap (λ a. a && not (has_number n (live h t)) && not (is_among (notices h) n)) (sym k)
+pub other_time : (h : List Event) (t n now : ℕ) → now ≡ time h → (now ≡ t → ⊥) → false ≡ is_over h t n
+other_time h t n now k other = by (time h == t) refl
+  where
+    by : (a : Bool) → (time h == t) ≡ a → false ≡ (a && not (has_number n (live h t)) && not (is_among (notices h) n))
+    by true q = absurd (other (k ∙ eqb-true (time h) t q))
+    by false q = refl
 
 pub gone_by : (over told went : Bool) → told ≡ over → told ≡ true → not went ≡ (over && not went)
 gone_by true told went k l = refl

@@ -1,10 +1,9 @@
-use Rattle.std.proofs.Common.{ap, sym, ◌∙◌}
-use Rattle.std.specs.Prelude.{◌==◌}
+use Rattle.std.proofs.Common.{sym, ◌∙◌}
 use Rattle.ws_core.proofs.GoneLeases.{not_later, other_time, over_now}
 use Rattle.ws_core.proofs.giving_back.is_over.Goals as goal
 
 pub returns-then-time-t : goal.returns-then-time-t
-returns-then-time-t c = record { stands = λ h since s l le. other_time h c.args.t c.args.lease (ap (λ a. a == c.args.t) (sym (c.time.ensures.stands h since s)) ∙ c.if-time-t.true) }
+returns-then-time-t c = record { stands = λ h since s l le. other_time h c.args.t c.args.lease c.time.result (c.time.ensures.stands h since s) c.if-time-t.true }
 
 pub returns : goal.returns
 returns c =

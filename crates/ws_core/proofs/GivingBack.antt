@@ -1,16 +1,15 @@
 -- Rooms that are given back: the core stands as before, and they are gone.
 use Rattle.std.proofs.Common.{◌≡◌, ℕ, suc, ◌≤◌, ◌<◌, Bool, true, false, not, cond, ◌&&◌, ◌||◌, List, [], ◌∷◌, refl, ap, sym, ◌∙◌, subst, length, arith, inl, inr}
-use Rattle.std.specs.Prelude.{◌==◌, Option, Some, None, IfSome, filter, is_some, nat_lt}
+use Rattle.std.specs.Prelude.{◌==◌, Option, Some, None, IfSome, IsSome, filter, is_some, nat_lt}
 use Rattle.std.specs.List.{list_any}
 use Rattle.std.specs.Option.{option_map}
 use Rattle.std.proofs.lemmas.Bool.Decides.{nat_tests}
 use Rattle.std.proofs.lemmas.Bool.{and_from, and_parts, eqb-true, false≢true, or_cases}
 use Rattle.ws_model.specs.declared.event.Event.{Event}
 use Rattle.ws_model.specs.declared.event.Intent.{Intent}
-use Rattle.ws_model.specs.declared.event.Mode.TheVariants.{Off, On}
 use Rattle.ws_model.specs.Fate.{Pair, fate}
-use Rattle.ws_model.specs.Leases.{is_on}
-use Rattle.ws_model.specs.Legal.{Legal, number_limit}
+use Rattle.ws_model.specs.Keep.{kept_leases, member}
+use Rattle.ws_model.specs.Legal.{Legal, number_limit, pending_of}
 use Rattle.ws_model.specs.Pairs.{owed}
 use Rattle.ws_model.specs.Revocation.{live_lease_of}
 use Rattle.ws_model.specs.Verdict.{is_kept_version, pair_of}
@@ -21,6 +20,10 @@ use Rattle.ws_fate.specs.declared.totals.Standing.TheVariants.{Open, Answered, E
 use Rattle.ws_fate.specs.Rows.{is_open}
 use Rattle.ws_fate.specs.Stands.{is_owed_at}
 use Rattle.ws_fate.specs.Totals.{standing}
+use Rattle.ws_intent.specs.declared.rows.Waiting.{Waiting}
+use Rattle.ws_intent.specs.Rows.{Rows as IntentRows, number_at}
+use Rattle.ws_intent.specs.Stands.{StandsFor as IntentsStand}
+use Rattle.ws_core_tables.proofs.Lookups.{waiting_is}
 use Rattle.ws_tries.specs.declared.room.Try.{Try}
 use Rattle.ws_tries.specs.Rows.{Rows as TryRows, tries_at}
 use Rattle.ws_tries.specs.Stands.{tries_of}
@@ -30,10 +33,11 @@ use Rattle.ws_ledger.specs.Rows.{Rows as LedgerRows}
 use Rattle.ws_ledger.specs.Stands.{StandsFor as LedgerStands, kept}
 use Rattle.ws_core.specs.declared.giving_back.Touched.{Touched}
 use Rattle.ws_core.specs.declared.giving_back.Touched.TheVariants.{Nothing, Version, Lease}
-use Rattle.ws_core.specs.GivenBack.{GivesBack, RoomsAreGone, is_meant, is_past, is_touched, of_lease, open_of, touched_by_end, touched_of}
+use Rattle.ws_core.specs.GivenBack.{GivesBack, GivesBackPairs, RoomsAreGone, is_gone, is_meant, is_of_gone, is_past, is_touched, of_lease, open_of, touched_by_confirmation, touched_of}
 use Rattle.ws_core.specs.Rows.{Rows}
 use Rattle.ws_core.specs.Stands.{GoesOn, StandsFor}
 use Rattle.ws_core.proofs.AllKept.{shown}
+use Rattle.ws_core.proofs.GoneLeases.{kept_not_gone}
 
 -- ---- a version that a compaction would keep isn't past
 
@@ -95,27 +99,43 @@ and_never false c k = refl
 not_later : (n : ℕ) → n ≤ n
 not_later n = omega arith
 
-stays : (meant : ℕ → Bool) (h : List Event) (since : ℕ) (rows : Rows) (tries : TryRows) → Legal h → GivesBack meant rows.ledger rows.tries tries → StandsFor h since rows
+-- where the rooms of pairs are taken of which the version or the lease isn't kept
+stays : (takes : ℕ → ℕ → Bool) (h : List Event) (since : ℕ) (rows : Rows) (tries : TryRows) → ((v n : ℕ) → tries_at v n tries ≡ cond (takes v n) None (tries_at v n rows.tries))
+    → ((v n : ℕ) → is_kept_version h since v ≡ true → member n (kept_leases h since) ≡ true → takes v n ≡ false) → StandsFor h since rows
     → StandsFor h since (record { ledger = rows.ledger; log = rows.log; renewals = rows.renewals; tries = tries })
-stays meant h since rows tries l gives s =
+stays takes h since rows tries look stay s =
     record {
       ledger = s.ledger;
       log = s.log;
       renewals = s.renewals;
-      tries = λ v n. subst (λ o. IfSome o (λ ts. ts ≡ tries_of h v n)) (sym (look v n)) (none_left (λ (ts : List Try). ts ≡ tries_of h v n) (meant v && is_past h rows.ledger v) (tries_at v n rows.tries) (s.tries v n));
-      only = λ v n k. look v n ∙ still_none (meant v && is_past h rows.ledger v) (tries_at v n rows.tries) (s.only v n k);
+      tries = λ v n. subst (λ o. IfSome o (λ ts. ts ≡ tries_of h v n)) (sym (look v n)) (none_left (λ (ts : List Try). ts ≡ tries_of h v n) (takes v n) (tries_at v n rows.tries) (s.tries v n));
+      only = λ v n k. look v n ∙ still_none (takes v n) (tries_at v n rows.tries) (s.only v n k);
       rooms = λ v n kept_version kept_lease there.
-          let stay : tries_at v n tries ≡ tries_at v n rows.tries = look v n
-          ∙ ap (λ b. cond b None (tries_at v n rows.tries)) (and_never (meant v) (is_past h rows.ledger v) (kept_stays h since since v rows.ledger s.ledger l (not_later since) kept_version)) in
-          ap is_some stay ∙ s.rooms v n kept_version kept_lease there;
+          ap is_some (look v n ∙ ap (λ b. cond b None (tries_at v n rows.tries)) (stay v n kept_version kept_lease)) ∙ s.rooms v n kept_version kept_lease there;
     }
-  where
-    look : (v n : ℕ) → tries_at v n tries ≡ cond (meant v && is_past h rows.ledger v) None (tries_at v n rows.tries)
-    look = gives h since s.ledger l
 
-pub goes_on : (e : Event) (meant : ℕ → Bool) (old mid : Rows) (tries : TryRows) → GoesOn e old mid → GivesBack meant mid.ledger mid.tries tries
+goes_on : (e : Event) (meant : ℕ → Bool) (old mid : Rows) (tries : TryRows) → GoesOn e old mid → GivesBack meant mid.ledger mid.tries tries
     → GoesOn e old (record { ledger = mid.ledger; log = mid.log; renewals = mid.renewals; tries = tries })
-goes_on e meant old mid tries goes gives h since s l le = stays meant (e ∷ h) e.t mid tries l gives (goes h since s l le)
+goes_on e meant old mid tries goes gives h since s l le =
+    let after = goes h since s l le in
+    stays (λ v n. meant v && is_past (e ∷ h) mid.ledger v) (e ∷ h) e.t mid tries (gives (e ∷ h) e.t after.ledger l)
+    (λ v n kept _. and_never (meant v) (is_past (e ∷ h) mid.ledger v) (kept_stays (e ∷ h) e.t e.t v mid.ledger after.ledger l (not_later e.t) kept)) after
+
+not_of_gone : (touched : Touched) (h : List Event) (t n : ℕ) (rows : LedgerRows) → is_gone h t rows.fates n ≡ false → is_of_gone touched h t rows.fates n ≡ false
+not_of_gone Nothing h t n rows k = refl
+not_of_gone (Version w) h t n rows k = refl
+not_of_gone (Lease m) h t n rows k = by (m == n) refl
+  where
+    by : (b : Bool) → (m == n) ≡ b → (b && is_gone h t rows.fates m) ≡ false
+    by true q = ap (is_gone h t rows.fates) (eqb-true m n q) ∙ k
+    by false q = refl
+
+pub goes_on_without : (e : Event) (touched : Touched) (old mid : Rows) (rest tries : TryRows) → GoesOn e old mid → GivesBack (is_meant touched mid.ledger.fates) mid.ledger mid.tries rest → GivesBackPairs touched e.t mid.ledger rest tries
+    → GoesOn e old (record { ledger = mid.ledger; log = mid.log; renewals = mid.renewals; tries = tries })
+goes_on_without e touched old mid rest tries goes gives takes h since s l le =
+    let after = goes_on e (is_meant touched mid.ledger.fates) old mid rest goes gives h since s l le in
+    stays (λ v n. is_meant touched mid.ledger.fates v && is_of_gone touched (e ∷ h) e.t mid.ledger.fates n) (e ∷ h) e.t (record { ledger = mid.ledger; log = mid.log; renewals = mid.renewals; tries = rest }) tries (takes (e ∷ h) e.t after.ledger l (not_later e.t))
+    (λ v n _ kept. and_never (is_meant touched mid.ledger.fates v) (is_of_gone touched (e ∷ h) e.t mid.ledger.fates n) (not_of_gone touched (e ∷ h) e.t n mid.ledger (kept_not_gone (e ∷ h) e.t n mid.ledger after.ledger l kept))) after
 
 -- ---- the rooms are gone
 
@@ -135,12 +155,20 @@ meant_there Nothing h since v rows s k = k
 meant_there (Version w) h since v rows s k = k
 meant_there (Lease n) h since v rows s k = let q = and_parts (nat_lt n number_limit) (is_some (pair_of h v n)) k in and_from (nat_lt n number_limit) _ q.0 (in_table h since v n rows s q.1)
 
-pub rooms_gone : (e : Event) (touched : Touched) (old mid : Rows) (tries : TryRows) → GoesOn e old mid → GivesBack (is_meant touched mid.ledger.fates) mid.ledger mid.tries tries
+pub rooms_gone :
+    (e : Event) (touched : Touched) (old mid : Rows) (rest tries : TryRows) → GoesOn e old mid → GivesBack (is_meant touched mid.ledger.fates) mid.ledger mid.tries rest → GivesBackPairs touched e.t mid.ledger rest tries
     → ((h : List Event) (since : ℕ) → StandsFor h since old → Legal h → since ≤ e.t → touched ≡ touched_of h e.t e.what) → RoomsAreGone e old (record { ledger = mid.ledger; log = mid.log; renewals = mid.renewals; tries = tries })
-rooms_gone e touched old mid tries goes gives are h since s l le v k p n =
+rooms_gone e touched old mid rest tries goes gives takes are h since s l le v n k p =
     let ledger = (goes h since s l le).ledger in
-    let there = meant_there touched (e ∷ h) e.t v mid.ledger ledger (ap (λ z. is_touched z (e ∷ h) v) (are h since s l.0 le) ∙ k) in
-    gives (e ∷ h) e.t ledger l v n ∙ ap (λ b. cond b None (tries_at v n mid.tries)) (and_from (is_meant touched mid.ledger.fates v) (is_past (e ∷ h) mid.ledger v) there p)
+    let same = are h since s l.0 le in
+    let there = meant_there touched (e ∷ h) e.t v mid.ledger ledger (ap (λ z. is_touched z (e ∷ h) v) same ∙ k) in
+    takes (e ∷ h) e.t ledger l (not_later e.t) v n
+    ∙ elim (or_cases (is_past (e ∷ h) mid.ledger v) (is_of_gone (touched_of h e.t e.what) (e ∷ h) e.t mid.ledger.fates n) p) [
+      | inl past ↦
+          still_none (is_meant touched mid.ledger.fates v && is_of_gone touched (e ∷ h) e.t mid.ledger.fates n) (tries_at v n rest)
+          (gives (e ∷ h) e.t ledger l v n ∙ ap (λ b. cond b None (tries_at v n mid.tries)) (and_from (is_meant touched mid.ledger.fates v) (is_past (e ∷ h) mid.ledger v) there past))
+      | inr gone ↦ ap (λ b. cond b None (tries_at v n rest)) (and_from (is_meant touched mid.ledger.fates v) (is_of_gone touched (e ∷ h) e.t mid.ledger.fates n) there (ap (λ z. is_of_gone z (e ∷ h) e.t mid.ledger.fates n) same ∙ gone))
+    ]
 
 -- ---- one version, and those of a lease
 
@@ -176,14 +204,40 @@ one_back false false p now old all k m = k ∙ m
 
 -- ---- what a confirmation touches
 
-pub by_on : (h : List Event) (t : ℕ) (i : Intent) (o : Option Intent) → Some i ≡ o → i.mode ≡ On → Nothing ≡ touched_by_end h t o
-by_on h t i o is on =
-    subst (λ o. Nothing ≡ touched_by_end h t o) is (sym (ap (λ m. cond (is_on m) Nothing (of_lease (option_map (λ l. l.intent.n) (live_lease_of h t i.topic i.callback)))) on))
+pub by_waiting :
+    (h : List Event) (t n : ℕ) (rows : IntentRows) (lease : Option ℕ) → IntentsStand rows h → IsSome (number_at n rows.pending)
+    → ((i : Intent) → Some i ≡ pending_of h n → lease ≡ option_map (λ l. l.intent.n) (live_lease_of h t i.topic i.callback)) → of_lease lease ≡ touched_by_confirmation h t (pending_of h n)
+by_waiting h t n rows lease s waits found = by (number_at n rows.pending) refl waits
+  where
+    by : (o : Option Waiting) → number_at n rows.pending ≡ o → IsSome o → of_lease lease ≡ touched_by_confirmation h t (pending_of h n)
+    by None k w = absurd (false≢true w)
+    by (Some w) k _ = let is = waiting_is h rows n w s (sym k) in ap of_lease (found w.intent is) ∙ ap (touched_by_confirmation h t) is
 
-pub by_off : (h : List Event) (t : ℕ) (i : Intent) (o : Option Intent) (lease : Option ℕ) (touched : Touched) → Some i ≡ o → i.mode ≡ Off → lease ≡ option_map (λ l. l.intent.n) (live_lease_of h t i.topic i.callback) → touched ≡ of_lease lease → touched ≡ touched_by_end h t o
-by_off h t i o lease touched is off found same =
-    subst (λ o. touched ≡ touched_by_end h t o) is
-    (same ∙ ap of_lease found ∙ sym (ap (λ m. cond (is_on m) Nothing (of_lease (option_map (λ l. l.intent.n) (live_lease_of h t i.topic i.callback)))) off))
+-- ---- the pairs of a lease
+
+pub pairs_go : {X : Type 0} (n m : ℕ) (there gone : Bool) (old : Option X) → m < number_limit → gone ≡ true → cond (there && (m == n)) None old ≡ cond ((nat_lt m number_limit && there) && ((m == n) && gone)) None old
+pairs_go n m there gone old low k = by (nat_lt m number_limit) gone (m == n) there (grind (arith, nat_tests)) k
+  where
+    by : (a g b c : Bool) → a ≡ true → g ≡ true → cond (c && b) None old ≡ cond ((a && c) && (b && g)) None old
+    by true true true true k l = refl
+    by true true true false k l = refl
+    by true true false true k l = refl
+    by true true false false k l = refl
+    by false g b c k l = absurd (false≢true k)
+    by true false b c k l = absurd (false≢true l)
+
+pub pairs_stay : {X : Type 0} (a b gone : Bool) (old : Option X) → gone ≡ false → old ≡ cond (a && (b && gone)) None old
+pairs_stay true true false old k = refl
+pairs_stay true false false old k = refl
+pairs_stay false b false old k = refl
+pairs_stay a b true old k = absurd (false≢true (sym k))
+
+pub pairs_unmet : {X : Type 0} (m : ℕ) (a b : Bool) (old : Option X) → number_limit ≤ m → old ≡ cond ((nat_lt m number_limit && a) && b) None old
+pairs_unmet m a b old high = by (nat_lt m number_limit) (grind (arith, nat_tests))
+  where
+    by : (c : Bool) → c ≡ false → old ≡ cond ((c && a) && b) None old
+    by false k = refl
+    by true k = absurd (false≢true (sym k))
 
 -- ---- the test
 

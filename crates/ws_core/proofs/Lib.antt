@@ -4,4 +4,5 @@ pub mod Log
 pub mod Going
 pub mod SameRooms
 pub mod AllKept
+pub mod GoneLeases
 pub mod GivingBack

@@ -10,14 +10,14 @@ ghost use Rattle.ws_core.specs.Stands.{CanFollow, GoesOn};
 
 use crate::Core;
 use crate::births::apply_with_rooms;
-use crate::giving_back::{give_back, touched_by, touched_by_push};
+use crate::giving_back::{give_back, give_back_pairs, touched_by, touched_by_push};
 use ws_copies::light_copy;
 use ws_model::{Event, How, NoMemory, What};
 use ws_tries::Try;
 
 impl Core {
-    /// Applies what happened, which may come next. The rooms of versions that no compaction would keep any
-    /// more are given back. At an error the core is as it was.
+    /// Applies what happened, which may come next. The rooms of versions and of leases that no compaction
+    /// would keep any more are given back. At an error the core is as it was.
     pub fn apply(&mut self, event: &Event) -> Result<(), NoMemory>
         requires follows { CanFollow self.old event.now }
         ensures ok { OnOk result (GoesOn event.now self.old self.new) }
@@ -46,7 +46,8 @@ impl Core {
     }
 
     /// Applies the end of a push at `t`, in seconds, which the core accepts as the next event. The rooms of
-    /// its version are given back where no compaction would keep it any more. It takes no memory.
+    /// its version and of its lease are given back where no compaction would keep them any more. It takes no
+    /// memory.
     pub fn apply_pushed(&mut self, serial: u64, t: u64, ver: u64, lease: u64, how: How)
         requires follows { CanFollow self.old (record { serial = serial; t = t; what = Pushed ver lease how }) }
         ensures stands { GoesOn (record { serial = serial; t = t; what = Pushed ver lease how }) self.old self.new }
@@ -56,6 +57,7 @@ impl Core {
         self.tries.add(ver, lease, Try { serial, t, how });
         let touched = touched_by_push(ver, lease, how);
         give_back(&self.ledger, &mut self.tries, touched);
+        give_back_pairs(&self.ledger, &mut self.tries, touched, t);
     }
 
     /// Applies what happened, but a push: the room for all that is taken before anything is changed.
@@ -76,6 +78,7 @@ impl Core {
         self.log.push_reserved(entry);
         add_reserved(&mut self.renewals, renewal);
         give_back(&self.ledger, &mut self.tries, touched);
+        give_back_pairs(&self.ledger, &mut self.tries, touched, event.t);
         Ok(())
     }
 }

@@ -1,26 +1,35 @@
-// Rooms that are given back: those of versions that no compaction would keep. It takes no memory.
-ghost use Rattle.std.specs.Prelude.{◌≡◌, ◌==◌, ◌<◌, ◌≤◌, ◌^◌, ℕ, List, false, true, filter};
+// Rooms that are given back: those of versions and of leases that no compaction would keep. It takes no
+// memory.
+ghost use Rattle.std.specs.Prelude.{◌≡◌, ◌==◌, ◌<◌, ◌≤◌, ◌^◌, ◌&&◌, ℕ, List, None, cond, false, true, filter};
 ghost use Rattle.std.specs.List.{list_any};
 ghost use Rattle.ws_model.specs.declared.event.Event.{Event};
 ghost use Rattle.ws_model.specs.declared.event.What.TheVariants.{Confirmed};
+ghost use Rattle.ws_model.specs.Intents.{notices};
+ghost use Rattle.ws_model.specs.Keep.{is_among};
+ghost use Rattle.ws_model.specs.Leases.{live};
 ghost use Rattle.ws_model.specs.Legal.{Legal, pending_of};
+ghost use Rattle.ws_model.specs.Moment.{time};
 ghost use Rattle.ws_model.specs.Versions.{latest_of};
+ghost use Rattle.ws_compaction.specs.Least.{has_number};
+ghost use Rattle.ws_tries.specs.Rows.{tries_at};
 ghost use Rattle.ws_tries.specs.Stands.{is_any_push};
+ghost use Rattle.ws_kept.specs.Finding.{is_replaced, went_over};
 ghost use Rattle.ws_core_tables.specs.Stands.{StandsFor as TablesStand};
 ghost use Rattle.ws_ledger.specs.Stands.{CanFollow, StandsFor as LedgerStands};
 ghost use Rattle.ws_core.specs.declared.giving_back.Touched.TheVariants.{Lease};
-ghost use Rattle.ws_core.specs.GivenBack.{GivesBack, former, is_meant, is_past, of_lease, touched_by_end, touched_by_push, touched_of};
+ghost use Rattle.ws_core.specs.GivenBack.{GivesBack, GivesBackPairs, former, is_gone, is_meant, is_over, is_past, of_lease, touched_by_confirmation, touched_by_push, touched_of};
 
 use ws_core_tables::Tables;
+use ws_fate::{Fates, Standing};
 use ws_kept::is_latest;
 use ws_ledger::Ledger;
-use ws_model::{Event, How, Mode, What};
+use ws_model::{Cause, Event, How, What};
 use ws_tries::Tries;
 
 /// The number of a version or a lease is below it.
 const NUMBER_LIMIT: u64 = 9_223_372_036_854_775_808;
 
-/// What an event touches, so that rooms may go: a version, or all those of a lease.
+/// What an event touches, so that rooms may go: a version, or a lease with all its versions.
 #[derive(Clone, Copy)]
 pub(crate) enum Touched {
     Nothing,
@@ -41,8 +50,8 @@ pub(crate) fn touched_by_push(ver: u64, lease: u64, how: How) -> Touched
 }
 
 /// What any other event touches which may come next, asked before it is applied: a new version touches
-/// that which is the latest of its topic; a revocation, and the confirmed end of a subscription, touch the
-/// versions of the lease.
+/// that which is the latest of its topic; a revocation and a settled notice touch their lease, and a
+/// confirmation that which it ends.
 pub(crate) fn touched_by(ledger: &Ledger, event: &Event) -> Touched
     requires other { is_any_push event.now.what ≡ false }
     requires follows { CanFollow ledger.now event.now }
@@ -52,21 +61,18 @@ pub(crate) fn touched_by(ledger: &Ledger, event: &Event) -> Touched
         What::Fetched(version) => former(ledger.tables(), version.topic.as_slice()),
         What::Confirmed { n, sent } => touched_by_confirmation(ledger, event, *n, *sent),
         What::Revoked { n, .. } => Touched::Lease(*n),
+        What::Noticed { n, .. } => Touched::Lease(*n),
         _ => Touched::Nothing,
     }
 }
 
-/// What a confirmation touches: the versions of the live lease, where it ends a subscription.
+/// What a confirmation touches: the live lease of its topic and callback, which it ends or replaces.
 fn touched_by_confirmation(ledger: &Ledger, event: &Event, n: u64, _sent: u64) -> Touched
     requires kind { event.now.what ≡ Confirmed n _sent }
     requires follows { CanFollow ledger.now event.now }
-    ensures stands { (h : List Event) (since : ℕ) → LedgerStands h since ledger.now → Legal h → since ≤ event.now.t → result ≡ touched_by_end h event.now.t (pending_of h n) }
+    ensures stands { (h : List Event) (since : ℕ) → LedgerStands h since ledger.now → Legal h → since ≤ event.now.t → result ≡ touched_by_confirmation h event.now.t (pending_of h n) }
 {
-    let tables = ledger.tables();
-    match tables.mode_of_pending(n) {
-        Mode::On => Touched::Nothing,
-        Mode::Off => of_lease(tables.lease_of_pending(n, event.t)),
-    }
+    of_lease(ledger.tables().lease_of_pending(n, event.t))
 }
 
 fn of_lease(lease: Option<u64>) -> Touched
@@ -141,4 +147,105 @@ fn give_back_each(ledger: &Ledger, tries: &mut Tries, lease: u64)
     for (pair, _) in ledger.fates().pairs_of(lease) {
         give_back_version(ledger, tries, pair.1);
     }
+}
+
+// ---- the pairs of a lease that is gone
+
+/// Takes the rooms of all pairs of the touched lease away, where no compaction at `t`, in seconds, would keep
+/// it: `t` is the time of the event, which was applied.
+pub(crate) fn give_back_pairs(ledger: &Ledger, tries: &mut Tries, touched: Touched, t: u64)
+    ensures { GivesBackPairs touched t ledger.now tries.old tries.new }
+{
+    match touched {
+        Touched::Nothing | Touched::Version(_) => {}
+        Touched::Lease(lease) => give_back_pairs_of(ledger, tries, lease, t),
+    }
+}
+
+/// Takes the rooms of all pairs of a lease away, where no compaction at `t` would keep it.
+fn give_back_pairs_of(ledger: &Ledger, tries: &mut Tries, lease: u64, t: u64)
+    ensures { GivesBackPairs (Lease lease) t ledger.now tries.old tries.new }
+{
+    if lease >= NUMBER_LIMIT {
+        return;
+    }
+    if is_gone(ledger, lease, t) {
+        give_back_all(ledger.fates(), tries, lease);
+    }
+}
+
+/// Takes the rooms of all pairs of a lease away.
+fn give_back_all(fates: &Fates, tries: &mut Tries, lease: u64)
+    requires { lease < 2 ^ 63 }
+    ensures { (v n : ℕ) → tries_at v n tries.new ≡ cond (list_any (λ e. e.0.1 == v) (filter (λ e. e.0.0 == lease) fates.now.pairs) && (lease == n)) None (tries_at v n tries.old) }
+{
+    for (pair, _) in fates.pairs_of(lease) {
+        tries.give_back(pair.1, lease);
+    }
+}
+
+/// Whether no compaction at `t` would keep a lease: it is over, and none of its pairs went over to one that
+/// replaced it.
+fn is_gone(ledger: &Ledger, lease: u64, t: u64) -> bool
+    requires { lease < 2 ^ 63 }
+    ensures stands { (h : List Event) (since : ℕ) → LedgerStands h since ledger.now → Legal h → since ≤ t → result ≡ is_gone h t ledger.now.fates lease }
+{
+    if !is_over(ledger.tables(), lease, t) {
+        return false;
+    }
+    !went_over(ledger.fates(), lease)
+}
+
+/// Whether a lease isn't live at `t`, and no notice of it is owed. Where `t` isn't the greatest time so far it
+/// isn't known, and the answer is no: so it is while a log is read again that a compaction has shortened.
+fn is_over(tables: &Tables, lease: u64, t: u64) -> bool
+    ensures stands { (h : List Event) (since : ℕ) → TablesStand h since tables.now → Legal h → since ≤ t → result ≡ is_over h t lease }
+{
+    if tables.time() != t {
+        return false;
+    }
+    if is_live(tables, lease) {
+        return false;
+    }
+    !is_noticed(tables, lease)
+}
+
+/// Whether a lease is live at the greatest time so far.
+fn is_live(tables: &Tables, lease: u64) -> bool
+    ensures stands { (h : List Event) (since : ℕ) → TablesStand h since tables.now → Legal h → since ≤ time h → result ≡ has_number lease (live h (time h)) }
+{
+    match tables.leased_intent(lease) {
+        Some(_) => true,
+        None => false,
+    }
+}
+
+/// Whether a notice of a number is owed.
+fn is_noticed(tables: &Tables, lease: u64) -> bool
+    ensures stands { (h : List Event) (since : ℕ) → TablesStand h since tables.now → result ≡ is_among (notices h) lease }
+{
+    match tables.denied_intent(lease) {
+        Some(_) => true,
+        None => false,
+    }
+}
+
+/// Whether a pair of a lease ended because the lease was replaced.
+fn went_over(fates: &Fates, lease: u64) -> bool
+    requires { lease < 2 ^ 63 }
+    ensures { result ≡ went_over (λ v. true) lease fates.now.pairs }
+{
+    for (_, standing) in fates.pairs_of(lease) {
+        if is_replaced(*standing) {
+            return true;
+        }
+    }
+    false
+}
+
+/// Whether a pair ended because its lease was replaced.
+fn is_replaced(standing: Standing) -> bool
+    ensures { result ≡ is_replaced standing }
+{
+    matches!(standing, Standing::Ended(Cause::Replaced))
 }

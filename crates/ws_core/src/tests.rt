@@ -1,4 +1,4 @@
-// When the rooms of versions are given back, worked out by hand.
+// When the rooms of versions and of leases are given back, worked out by hand.
 ghost use Rattle.std.specs.Prelude.{OnOk};
 ghost use Rattle.ws_core.specs.Follows.{HasHistory};
 
@@ -10,7 +10,7 @@ use ws_model::{Alg, Bytes, Event, How, Intent, Mode, NoMemory, Version, What};
 const TOPIC: &[u8] = b"http://pub.example/";
 
 /// What happens next, by numbers: of an intent and the place of its callback, of an intent, of a version, of
-/// a version and a lease, of a lease.
+/// a version and a lease, of a lease, and of one again.
 #[derive(Clone, Copy)]
 enum Step {
     Asked(u64, Mode, u8),
@@ -18,10 +18,11 @@ enum Step {
     Fetched(u64),
     Pushed(u64, u64, How),
     Revoked(u64),
+    Noticed(u64),
 }
 
 /// Each step with how many pairs have a room after it.
-const STEPS: [(Step, u64); 20] = [
+const STEPS: [(Step, u64); 29] = [
     (Step::Asked(1, Mode::On, b'a'), 0),
     (Step::Confirmed(1), 0),
     (Step::Asked(2, Mode::On, b'b'), 0),
@@ -40,12 +41,24 @@ const STEPS: [(Step, u64); 20] = [
     // Nothing is owed of version 2.
     (Step::Fetched(3), 3),
     // Lease 1 is over. Version 3 is owed to the others.
-    (Step::Pushed(3, 1, How::Gone), 3),
-    (Step::Fetched(4), 5),
-    (Step::Revoked(2), 5),
-    (Step::Asked(4, Mode::Off, b'c'), 5),
+    (Step::Pushed(3, 1, How::Gone), 2),
+    (Step::Fetched(4), 4),
+    // A notice of lease 2 is owed.
+    (Step::Revoked(2), 4),
+    (Step::Asked(4, Mode::Off, b'c'), 4),
     // Lease 3 is over too. Version 4 is the latest.
-    (Step::Confirmed(4), 2),
+    (Step::Confirmed(4), 1),
+    (Step::Noticed(2), 0),
+    (Step::Asked(5, Mode::On, b'd'), 0),
+    (Step::Confirmed(5), 0),
+    (Step::Fetched(5), 1),
+    (Step::Asked(6, Mode::On, b'd'), 1),
+    // Version 5 goes over from lease 5 to lease 6.
+    (Step::Confirmed(6), 2),
+    (Step::Pushed(5, 6, How::Done), 2),
+    (Step::Asked(7, Mode::On, b'd'), 2),
+    // Nothing goes over from lease 6 to lease 7.
+    (Step::Confirmed(7), 1),
 ];
 
 fn asked(alloc: Global, n: u64, mode: Mode, place: u8) -> Result<What, NoMemory> {
@@ -84,6 +97,7 @@ fn what(alloc: Global, step: Step) -> Result<What, NoMemory> {
             n,
             reason: Bytes::copy(alloc, b"moved")?,
         }),
+        Step::Noticed(n) => Ok(What::Noticed { n, heard: true }),
     }
 }
 

@@ -1,10 +1,10 @@
 use Rattle.std.proofs.Common.{refl, sym, subst}
 use Rattle.ws_model.specs.declared.event.Event.{Event}
 use Rattle.ws_model.specs.declared.event.What.TheVariants.{Pushed}
-use Rattle.ws_core.specs.GivenBack.{RoomsAreGone, is_meant}
+use Rattle.ws_core.specs.GivenBack.{RoomsAreGone}
 use Rattle.ws_core.specs.Rows.{Rows}
 use Rattle.ws_core.specs.Stands.{GoesOn, StandsFor}
-use Rattle.ws_core.proofs.GivingBack.{goes_on, rooms_gone}
+use Rattle.ws_core.proofs.GivingBack.{goes_on_without, rooms_gone}
 use Rattle.ws_core.proofs.Going.{pushed_goes}
 use Rattle.ws_core.proofs.Rooms.{has_room}
 use Rattle.ws_core.proofs.whole.Core.apply_pushed.Goals as goal
@@ -20,9 +20,9 @@ returns c =
     let e : Event = record { serial = c.args.serial; t = c.args.t; what = Pushed c.args.ver c.args.lease c.args.how } in
     let old : Rows = record { ledger = c.self.inside.ledger; log = c.self.inside.log.items; renewals = c.self.inside.renewals.items; tries = c.self.inside.tries } in
     let mid : Rows = record { ledger = c.apply_pushed.new.self; log = c.self.inside.log.items; renewals = c.self.inside.renewals.items; tries = c.add.new.self } in
-    let new : Rows = record { ledger = c.apply_pushed.new.self; log = c.self.inside.log.items; renewals = c.self.inside.renewals.items; tries = c.give_back.new.tries } in
+    let new : Rows = record { ledger = c.apply_pushed.new.self; log = c.self.inside.log.items; renewals = c.self.inside.renewals.items; tries = c.give_back_pairs.new.tries } in
     let goes = pushed_goes e c.args.ver c.args.lease c.args.how old mid refl c.apply_pushed.ensures.stands refl refl c.add.ensures.look in
     record {
-      stands = subst (λ (r : Rows). GoesOn e r new) c.self.view_is (goes_on e (is_meant c.touched_by_push-touched.result c.apply_pushed.new.self.fates) old mid c.give_back.new.tries goes c.give_back.ensures);
-      gone = subst (λ (r : Rows). RoomsAreGone e r new) c.self.view_is (rooms_gone e c.touched_by_push-touched.result old mid c.give_back.new.tries goes c.give_back.ensures (λ h since s l le. c.touched_by_push-touched.ensures));
+      stands = subst (λ (r : Rows). GoesOn e r new) c.self.view_is (goes_on_without e c.touched_by_push-touched.result old mid c.give_back.new.tries c.give_back_pairs.new.tries goes c.give_back.ensures c.give_back_pairs.ensures);
+      gone = subst (λ (r : Rows). RoomsAreGone e r new) c.self.view_is (rooms_gone e c.touched_by_push-touched.result old mid c.give_back.new.tries c.give_back_pairs.new.tries goes c.give_back.ensures c.give_back_pairs.ensures (λ h since s l le. c.touched_by_push-touched.ensures));
     }

@@ -110,8 +110,8 @@ fn keeps_again(alloc: Global, compacted: &Core, kept: &[Event], t: u64) -> Resul
     Ok(keeps(compacted, kept, t)? && keeps_of(alloc, compacted, kept, t.saturating_add(240))?)
 }
 
-/// Whether the core keeps at `t` of its history what the definitions keep.
-pub fn keeps_of(alloc: Global, core: &Core, events: &[Event], t: u64) -> Result<bool, NoMemory> {
+// Whether the core keeps at `t` of its history what the definitions keep.
+fn keeps_of(alloc: Global, core: &Core, events: &[Event], t: u64) -> Result<bool, NoMemory> {
     keeps(core, &ws_plain::keep(alloc, events, t)?, t)
 }
 

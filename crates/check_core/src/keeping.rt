@@ -23,21 +23,42 @@ pub fn keeping_agrees(
         return Ok(false);
     }
     let kept = core.keep(t)?;
-    let wanted = ws_plain::keep(alloc, &history.events, t)?;
-    if kept.as_slice() != wanted.as_slice() {
-        return Ok(false);
-    }
-    match after(alloc, &kept)? {
-        Some(compacted) => {
-            let fates = ws_plain::all_fates(alloc, &kept, t)?;
-            Ok(
-                has_pairs(&compacted, &fates, t)
-                    && stands_later(alloc, core, &compacted, history, &fates, t)?
-                    && keeps_again(alloc, &compacted, &kept, t)?,
-            )
-        }
+    Ok(is_kept(alloc, history, &kept, t)? && goes_on(alloc, core, history, &kept, t)?)
+}
+
+// Whether a compaction of the history at `t` keeps these events.
+fn is_kept(alloc: Global, history: &History, kept: &[Event], t: u64) -> Result<bool, NoMemory> {
+    Ok(ws_plain::keep(alloc, &history.events, t)?.as_slice() == kept)
+}
+
+// Whether a core that goes on from what is kept says at `t` and later what this one says.
+fn goes_on(
+    alloc: Global,
+    core: &Core,
+    history: &History,
+    kept: &[Event],
+    t: u64,
+) -> Result<bool, NoMemory> {
+    match after(alloc, kept)? {
+        Some(compacted) => Ok(
+            stands_for(alloc, core, &compacted, history, kept, t)?
+                && keeps_again(alloc, &compacted, kept, t)?,
+        ),
         None => Ok(false),
     }
+}
+
+// Whether the compacted core has the pairs of what is kept, and says what the whole one says.
+fn stands_for(
+    alloc: Global,
+    core: &Core,
+    compacted: &Core,
+    history: &History,
+    kept: &[Event],
+    t: u64,
+) -> Result<bool, NoMemory> {
+    let fates = ws_plain::all_fates(alloc, kept, t)?;
+    Ok(has_pairs(compacted, &fates, t) && stands_later(alloc, core, compacted, history, &fates, t)?)
 }
 
 // Whether the core has these pairs with these fates.

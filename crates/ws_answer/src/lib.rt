@@ -6,8 +6,6 @@ mod judging;
 mod pings;
 mod rooms;
 mod subscription;
-#[cfg(test)]
-mod tests;
 
 pub use fault::CoreFault;
 pub use judging::{judge, revocation};

@@ -2,7 +2,5 @@
 #![tactic(auto)]
 
 mod copies;
-#[cfg(test)]
-mod tests;
 
 pub use copies::{copy_event, light_copy};

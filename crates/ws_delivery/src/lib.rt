@@ -14,6 +14,3 @@ pub use laws::{next_due_agrees, stands_after, stands_empty, stands_later, stands
 pub use open_of::OpenOf;
 pub use open_pair::OpenPair;
 pub use table::Deliveries;
-
-#[cfg(test)]
-mod tests;

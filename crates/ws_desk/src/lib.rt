@@ -4,7 +4,5 @@
 mod calls;
 mod committing;
 mod owner;
-#[cfg(test)]
-mod tests;
 
 pub use owner::Desk;

@@ -7,8 +7,6 @@ mod file;
 mod gated;
 mod log;
 mod memory;
-#[cfg(test)]
-mod tests;
 mod torn;
 
 pub use disk::{Disk, DiskFailed};

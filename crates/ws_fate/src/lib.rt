@@ -4,8 +4,6 @@
 mod counts;
 pub mod laws;
 mod table;
-#[cfg(test)]
-mod tests;
 mod totals;
 
 pub use table::Fates;

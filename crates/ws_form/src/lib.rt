@@ -12,6 +12,3 @@ mod read;
 pub use ask::Ask;
 pub use fault::AskFault;
 pub use read::read_ask;
-
-#[cfg(test)]
-mod tests;

@@ -3,7 +3,5 @@
 
 pub mod laws;
 mod order;
-#[cfg(test)]
-mod tests;
 
 pub use order::in_order;

@@ -5,8 +5,6 @@ mod hashes;
 mod keyed;
 mod laws;
 mod signatures;
-#[cfg(test)]
-mod tests;
 
 pub use hashes::{Hash, UseSha1, UseSha256, UseSha384, UseSha512};
 pub use keyed::hmac;

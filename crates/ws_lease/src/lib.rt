@@ -10,6 +10,3 @@ mod topic_index;
 pub use live_of::LiveOf;
 pub use table::Leases;
 pub use ws_model::{Cause, Lease, NoMemory};
-
-#[cfg(test)]
-mod tests;

@@ -22,6 +22,3 @@ pub use memory_dials::MemDial;
 pub use memory_links::MemLink;
 pub use status::{ExchangeFault, Status};
 pub use traits::{ReadFailed, Sink, Source, WriteFailed};
-
-#[cfg(test)]
-mod tests;

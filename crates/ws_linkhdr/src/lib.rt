@@ -6,8 +6,6 @@ mod item;
 pub mod laws;
 mod read;
 mod state;
-#[cfg(test)]
-mod tests;
 mod words;
 mod write;
 

@@ -3,7 +3,5 @@
 
 pub mod laws;
 mod link;
-#[cfg(test)]
-mod tests;
 
 pub use link::own_link;

@@ -29,6 +29,3 @@ pub use leases::live;
 pub use pair_fates::{PairFate, all_fates};
 pub use pairs::fate;
 pub use works::due;
-
-#[cfg(test)]
-mod tests;

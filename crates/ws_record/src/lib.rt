@@ -12,6 +12,3 @@ pub use pushed::pushed_batch;
 
 /// The greatest length of a batch's text, in bytes.
 pub const MAX_BATCH: usize = 16_777_216;
-
-#[cfg(test)]
-mod tests;

@@ -9,6 +9,3 @@ mod words;
 pub use script::{Happening, Line, MAX_TIME};
 pub use take::{ReadFault, take_happening};
 pub use words::Word;
-
-#[cfg(test)]
-mod tests;

@@ -14,6 +14,3 @@ pub use fault::TargetFault;
 pub use key::{callback, is_key, join, key_is_its_own, topic};
 pub use location::Place;
 pub use request::{host_field, path_and_query, place, request_target, with_query};
-
-#[cfg(test)]
-mod tests;

@@ -5,8 +5,6 @@ pub mod laws;
 mod room;
 mod rooms;
 mod table;
-#[cfg(test)]
-mod tests;
 
 pub use room::{Room, Try};
 pub use table::Tries;

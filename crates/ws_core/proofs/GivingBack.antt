@@ -88,19 +88,19 @@ none_left : {X : Type 0} (P : X → Type 0) (b : Bool) (o : Option X) → IfSome
 none_left P true o k = tt
 none_left P false o k = k
 
-still_none : {X : Type 0} (b : Bool) (o : Option X) → o ≡ None → cond b None o ≡ None
+pub still_none : {X : Type 0} (b : Bool) (o : Option X) → o ≡ None → cond b None o ≡ None
 still_none true o k = refl
 still_none false o k = k
 
-and_never : (b c : Bool) → c ≡ false → (b && c) ≡ false
+pub and_never : (b c : Bool) → c ≡ false → (b && c) ≡ false
 and_never true c k = k
 and_never false c k = refl
 
-not_later : (n : ℕ) → n ≤ n
+pub not_later : (n : ℕ) → n ≤ n
 not_later n = omega arith
 
 -- where the rooms of pairs are taken of which the version or the lease isn't kept
-stays : (takes : ℕ → ℕ → Bool) (h : List Event) (since : ℕ) (rows : Rows) (tries : TryRows) → ((v n : ℕ) → tries_at v n tries ≡ cond (takes v n) None (tries_at v n rows.tries))
+pub stays : (takes : ℕ → ℕ → Bool) (h : List Event) (since : ℕ) (rows : Rows) (tries : TryRows) → ((v n : ℕ) → tries_at v n tries ≡ cond (takes v n) None (tries_at v n rows.tries))
     → ((v n : ℕ) → is_kept_version h since v ≡ true → member n (kept_leases h since) ≡ true → takes v n ≡ false) → StandsFor h since rows
     → StandsFor h since (record { ledger = rows.ledger; log = rows.log; renewals = rows.renewals; tries = tries })
 stays takes h since rows tries look stay s =
@@ -121,7 +121,7 @@ goes_on e meant old mid tries goes gives h since s l le =
     stays (λ v n. meant v && is_past (e ∷ h) mid.ledger v) (e ∷ h) e.t mid tries (gives (e ∷ h) e.t after.ledger l)
     (λ v n kept _. and_never (meant v) (is_past (e ∷ h) mid.ledger v) (kept_stays (e ∷ h) e.t e.t v mid.ledger after.ledger l (not_later e.t) kept)) after
 
-not_of_gone : (touched : Touched) (h : List Event) (t n : ℕ) (rows : LedgerRows) → is_gone h t rows.fates n ≡ false → is_of_gone touched h t rows.fates n ≡ false
+pub not_of_gone : (touched : Touched) (h : List Event) (t n : ℕ) (rows : LedgerRows) → is_gone h t rows.fates n ≡ false → is_of_gone touched h t rows.fates n ≡ false
 not_of_gone Nothing h t n rows k = refl
 not_of_gone (Version w) h t n rows k = refl
 not_of_gone (Lease m) h t n rows k = by (m == n) refl

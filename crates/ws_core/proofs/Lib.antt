@@ -6,3 +6,4 @@ pub mod SameRooms
 pub mod AllKept
 pub mod GoneLeases
 pub mod GivingBack
+pub mod Expiring

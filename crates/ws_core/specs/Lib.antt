@@ -4,3 +4,4 @@ pub mod Stands
 pub mod Follows
 pub mod Committing
 pub mod GivenBack
+pub mod Passing

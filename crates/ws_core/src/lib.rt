@@ -11,6 +11,7 @@ mod committing;
 mod giving_back;
 mod keeping;
 mod looking;
+mod passing;
 mod settling;
 #[cfg(test)]
 mod tests;

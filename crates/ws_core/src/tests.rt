@@ -22,7 +22,7 @@ enum Step {
 }
 
 /// Each step with how many pairs have a room after it.
-const STEPS: [(Step, u64); 29] = [
+const STEPS: [(Step, u64); 30] = [
     (Step::Asked(1, Mode::On, b'a'), 0),
     (Step::Confirmed(1), 0),
     (Step::Asked(2, Mode::On, b'b'), 0),
@@ -59,7 +59,14 @@ const STEPS: [(Step, u64); 29] = [
     (Step::Asked(7, Mode::On, b'd'), 2),
     // Nothing goes over from lease 6 to lease 7.
     (Step::Confirmed(7), 1),
+    // Version 6 is owed to lease 7.
+    (Step::Fetched(6), 1),
 ];
+
+/// When all of this happens, and when the leases have expired, in seconds.
+const NOW: u64 = 1_000;
+
+const EXPIRY: u64 = 865_000;
 
 fn asked(alloc: Global, n: u64, mode: Mode, place: u8) -> Result<What, NoMemory> {
     let mut callback = b"http://sub.example/".to_vec(alloc)?;
@@ -90,7 +97,7 @@ fn fetched(alloc: Global, ver: u64) -> Result<What, NoMemory> {
 fn what(alloc: Global, step: Step) -> Result<What, NoMemory> {
     match step {
         Step::Asked(n, mode, place) => asked(alloc, n, mode, place),
-        Step::Confirmed(n) => Ok(What::Confirmed { n, sent: 1000 }),
+        Step::Confirmed(n) => Ok(What::Confirmed { n, sent: NOW }),
         Step::Fetched(ver) => fetched(alloc, ver),
         Step::Pushed(ver, lease, how) => Ok(What::Pushed { ver, lease, how }),
         Step::Revoked(n) => Ok(What::Revoked {
@@ -101,15 +108,15 @@ fn what(alloc: Global, step: Step) -> Result<What, NoMemory> {
     }
 }
 
-/// Applies a step, where the core accepts it, and says how many pairs have a room.
-fn rooms_after(alloc: Global, core: &mut Core, step: Step) -> Result<Option<u64>, NoMemory>
+/// Applies a step at `t`, where the core accepts it, and says how many pairs have a room.
+fn rooms_after(alloc: Global, core: &mut Core, step: Step, t: u64) -> Result<Option<u64>, NoMemory>
     requires { HasHistory core.old }
     ensures { OnOk result (HasHistory core.new) }
 {
     let serial = core.serial().saturating_add(1);
     let event = Event {
         serial,
-        t: 1000,
+        t,
         what: what(alloc, step)?,
     };
     if !core.accepts(&event)? {
@@ -128,7 +135,9 @@ fn rooms_are_given_back(rt: HostRuntime) -> Result<(), Fail> {
     let alloc = rt.alloc();
     let mut core = Core::empty(alloc);
     for (step, rooms) in &STEPS {
-        assert_eq!(rt; rooms_after(alloc, &mut core, *step)?, Some(*rooms));
+        assert_eq!(rt; rooms_after(alloc, &mut core, *step, NOW)?, Some(*rooms));
     }
+    let next = Step::Asked(8, Mode::On, b'e');
+    assert_eq!(rt; rooms_after(alloc, &mut core, next, EXPIRY)?, Some(0));
     Ok(())
 }

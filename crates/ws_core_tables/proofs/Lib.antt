@@ -12,3 +12,4 @@ pub mod HeldBodies
 pub mod LeaseCounts
 pub mod Together
 pub mod Pinged
+pub mod Expired

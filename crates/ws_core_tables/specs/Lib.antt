@@ -5,3 +5,4 @@ pub mod Numbers
 pub mod Rows
 pub mod Stands
 pub mod Besides
+pub mod Passing

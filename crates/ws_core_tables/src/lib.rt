@@ -16,6 +16,7 @@ mod keeping;
 mod looking;
 mod numbers;
 mod owed_fetch;
+mod passing;
 mod tables;
 mod walking;
 

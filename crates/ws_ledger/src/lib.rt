@@ -13,6 +13,7 @@ mod fetched;
 pub mod laws;
 mod looking;
 mod newborn;
+mod passing;
 mod pushed;
 mod quiet;
 mod settling;

@@ -1,4 +1,3 @@
-use Rattle.std.proofs.Common.{ap, sym, ◌∙◌}
 use Rattle.ws_model.specs.Leases.{live}
 use Rattle.ws_model.specs.Moment.{time}
 use Rattle.ws_core.proofs.GoneLeases.{told_by_intent}

@@ -5,6 +5,7 @@ use Rattle.ws_core.specs.GivenBack.{RoomsAreGone}
 use Rattle.ws_core.specs.Renewed.{listed}
 use Rattle.ws_core.specs.Rows.{Rows}
 use Rattle.ws_core.specs.Stands.{GoesOn, StandsFor}
+use Rattle.ws_core.proofs.Expiring.{goes_past, gone_past, in_time}
 use Rattle.ws_core.proofs.GivingBack.{goes_on_without, rooms_gone}
 use Rattle.ws_core.proofs.Going.{other_goes, without_rooms}
 use Rattle.ws_core.proofs.whole.Core.apply_other.Goals as goal
@@ -16,17 +17,24 @@ apply_with_rooms-requires-clause-new c v n k =
     without_rooms c.args.event.now f.past c.in_ok-births.births.items f.since (record { ledger = c.self.inside.ledger; log = c.self.inside.log.items; renewals = c.self.inside.renewals.items; tries = c.self.inside.tries }) inside
     (c.in_ok-births.ensures f.past f.since inside.ledger f.legal f.in_time) v n (subst (λ ps. is_listed v n ps ≡ true) c.deref.ensures.value k)
 
+pub let_go-requires : goal.let_go-requires
+let_go-requires c = let f = c.requires.follows in record { in_time = in_time c.args.event.now f.past f.legal }
+
 pub returns : goal.returns
 returns c =
     let old : Rows = record { ledger = c.self.inside.ledger; log = c.self.inside.log.items; renewals = c.self.inside.renewals.items; tries = c.self.inside.tries } in
     let mid : Rows = record { ledger = c.apply_with_rooms.new.ledger; log = c.push_reserved.new.self.items; renewals = c.add_reserved.new.renewals.items; tries = c.apply_with_rooms.new.tries } in
-    let new : Rows = record { ledger = c.apply_with_rooms.new.ledger; log = c.push_reserved.new.self.items; renewals = c.add_reserved.new.renewals.items; tries = c.give_back_pairs.new.tries } in
+    let rest : Rows = record { ledger = c.apply_with_rooms.new.ledger; log = c.push_reserved.new.self.items; renewals = c.add_reserved.new.renewals.items; tries = c.give_back_pairs.new.tries } in
+    let new : Rows = record { ledger = c.let_go.new.ledger; log = c.push_reserved.new.self.items; renewals = c.add_reserved.new.renewals.items; tries = c.let_go.new.tries } in
     let goes = other_goes c.args.event.now c.in_ok-births.births.items c.renewal-renewal.result old mid c.requires.other c.in_ok-apply_with_rooms.ensures.ledger c.in_ok-births.ensures c.renewal-renewal.ensures
     (c.push_reserved.ensures.items ∙ (λ j. c.in_ok-reserve.ensures.items j ++ c.in_ok-entry.ensures j ∷ []))
     (c.add_reserved.ensures ∙ ap (λ rs. rs ++ listed c.renewal-renewal.result) c.in_ok-reserve-2.ensures.items)
     (λ v n. c.in_ok-apply_with_rooms.ensures.rooms v n ∙ ap (λ ps. cond (is_listed v n ps) (Some []) (tries_at v n c.self.inside.tries)) c.deref.ensures.value) in
+    let left = goes_on_without c.args.event.now c.touched_by-touched.result old mid c.give_back.new.tries c.give_back_pairs.new.tries goes c.give_back.ensures c.give_back_pairs.ensures in
+    let gone = rooms_gone c.args.event.now c.touched_by-touched.result old mid c.give_back.new.tries c.give_back_pairs.new.tries goes c.give_back.ensures c.give_back_pairs.ensures (λ h since s l le. c.touched_by-touched.ensures.stands h since s.ledger l le) in
     record {
-      ok = subst (λ (r : Rows). GoesOn c.args.event.now r new) c.self.view_is (goes_on_without c.args.event.now c.touched_by-touched.result old mid c.give_back.new.tries c.give_back_pairs.new.tries goes c.give_back.ensures c.give_back_pairs.ensures);
-      gone = subst (λ (r : Rows). RoomsAreGone c.args.event.now r new) c.self.view_is (rooms_gone c.args.event.now c.touched_by-touched.result old mid c.give_back.new.tries c.give_back_pairs.new.tries goes c.give_back.ensures c.give_back_pairs.ensures (λ h since s l le. c.touched_by-touched.ensures.stands h since s.ledger l le));
+      ok = subst (λ (r : Rows). GoesOn c.args.event.now r new) c.self.view_is (goes_past c.args.event.now old rest c.let_go.new.ledger c.let_go.new.tries left c.let_go.ensures.stands);
+      gone = subst (λ (r : Rows). RoomsAreGone c.args.event.now r new) c.self.view_is (gone_past c.args.event.now old rest c.let_go.new.ledger c.let_go.new.tries left gone c.let_go.ensures.fates c.let_go.ensures.none);
+      unexpired = c.let_go.ensures.unexpired;
       err = tt;
     }

@@ -47,3 +47,22 @@ fn pairs_and_their_tries(rt: HostRuntime) -> Result<(), Fail> {
     assert!(rt; tries.of(4, 1).is_some());
     Ok(())
 }
+
+#[test]
+fn rooms_by_lease(rt: HostRuntime) -> Result<(), Fail> {
+    let mut tries = Tries::empty(rt.alloc());
+    assert_eq!(rt; tries.next_version(2, 0), None);
+    tries.make_rooms(&[(5, 2), (3, 2), (4, 1), (3, 1), (9, 3)])?;
+    assert_eq!(rt; tries.next_version(2, 0), Some(3));
+    assert_eq!(rt; tries.next_version(2, 3), Some(3));
+    assert_eq!(rt; tries.next_version(2, 4), Some(5));
+    assert_eq!(rt; tries.next_version(2, 6), None);
+    tries.give_back(3, 1);
+    assert_eq!(rt; tries.next_version(1, 0), Some(4));
+    tries.give_back_lease(2);
+    assert_eq!(rt; tries.next_version(2, 0), None);
+    assert_eq!(rt; (tries.of(3, 2), tries.of(5, 2)), (None, None));
+    assert!(rt; tries.of(4, 1).is_some());
+    assert_eq!(rt; tries.next_version(3, 0), Some(9));
+    Ok(())
+}

@@ -1,14 +1,10 @@
 -- Changes at listed pairs, one after another.
 use Rattle.std.proofs.Common.{◌≡◌, ℕ, Bool, true, false, cond, ◌&&◌, ◌||◌, List, [], ◌∷◌, refl, ap, sym, ◌∙◌, drop, suc, zero}
 use Rattle.std.specs.Prelude.{◌==◌, Option, None}
-use Rattle.std.specs.Ordering.{nat_cmp}
-use Rattle.std.specs.Cmp.{IsTotalOrder, on_total}
 use Rattle.std.specs.List.Sorted.{IsStrictlySortedBy}
 use Rattle.std.specs.Map.{keys_of}
-use Rattle.std.specs.BTreeMap.{BTreeMap}
 use Rattle.std.proofs.lemmas.Bool.{or_parts}
-use Rattle.std.proofs.lemmas.Cmp.{nat_cmp_total, then_total}
-use Rattle.std.proofs.lemmas.Map.Lookups.{btree_map_from_get, exact_pairs, exact_unsigned}
+use Rattle.ws_fate.proofs.SameRows.{ascends, same_pairs}
 use Rattle.ws_tries.specs.declared.room.Try.{Try}
 use Rattle.ws_tries.specs.Rows.{Rows, is_here, is_listed, pair_order, tries_at}
 
@@ -51,12 +47,6 @@ undone pairs old now new others v n = by (is_listed v n pairs) refl
     by true e = sym (new v n e)
     by false e = others v n e
 
--- ---- maps in the order of pairs
-
-pub total : IsTotalOrder pair_order
-total = then_total (on_total (λ (x : ℕ × ℕ). x.0) nat_cmp_total) (on_total (λ (x : ℕ × ℕ). x.1) nat_cmp_total)
-
--- such maps are the same where they say the same of each pair
-pub same_map : (m n : BTreeMap (ℕ × ℕ) (List Try)) → IsStrictlySortedBy pair_order (keys_of m.entries) → IsStrictlySortedBy pair_order (keys_of n.entries)
-    → ((v w : ℕ) → tries_at v w m.entries ≡ tries_at v w n.entries) → m.entries ≡ n.entries
-same_map m n s t h = btree_map_from_get total m n s t (λ q. h q.0 q.1) (exact_pairs nat_cmp nat_cmp exact_unsigned exact_unsigned)
+-- tables are the same where they say the same of each pair
+pub same_map : (old new : Rows) → IsStrictlySortedBy pair_order (keys_of old) → IsStrictlySortedBy pair_order (keys_of new) → ((v n : ℕ) → tries_at v n new ≡ tries_at v n old) → new ≡ old
+same_map old new s t look = same_pairs new old (ascends new t) (ascends old s) (λ n v. look v n)

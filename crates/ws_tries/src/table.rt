@@ -1,5 +1,5 @@
 // The table of pairs with their tries.
-ghost use Rattle.std.specs.Prelude.{◌≡◌, ◌∷◌, ◌++◌, ◌<◌, ◌^◌, ◌==◌, [], ℕ, None, Some, List, true, cond, filter, length, option_map, OnOk, OnErr};
+ghost use Rattle.std.specs.Prelude.{◌≡◌, ◌∷◌, ◌++◌, ◌<◌, ◌≤◌, ◌^◌, ◌==◌, [], ℕ, None, Some, List, true, cond, filter, length, option_map, IfNone, IfSome, IsSome, OnOk, OnErr};
 ghost use Rattle.std.specs.Option.{IsSomeAnd};
 ghost use Rattle.std.specs.List.Sorted.{IsStrictlySortedBy};
 ghost use Rattle.std.specs.Map.{keys_of};
@@ -7,10 +7,9 @@ ghost use Rattle.ws_model.specs.declared.event.Event.{Event};
 ghost use Rattle.ws_tries.specs.Rows.{is_here, is_listed, pair_order, tries_at};
 ghost use Rattle.ws_tries.specs.Stands.{StandsFor};
 
-use crate::rooms::{self, ByPair};
-use crate::{Room, Try};
+use crate::held::Held;
+use crate::{Room, Try, rooms};
 use std::alloc::Global;
-use std::collections::BTreeMap;
 use std::collections::btree_map::{Iter, Range};
 use std::marker::Model;
 use ws_model::NoMemory;
@@ -20,7 +19,7 @@ use ws_model::NoMemory;
 #[derive(Drop)]
 pub struct Tries {
     alloc: Global,
-    by_pair: ByPair,
+    held: Held,
 }
 
 impl Model for Tries {
@@ -28,7 +27,7 @@ impl Model for Tries {
 
     ghost Value = { Rows };
 
-    ghost view = { λ s. s.by_pair.entries };
+    ghost view = { λ s. s.held };
 }
 
 impl Tries {
@@ -39,7 +38,7 @@ impl Tries {
     {
         Tries {
             alloc,
-            by_pair: BTreeMap::new(alloc),
+            held: Held::empty(alloc),
         }
     }
 
@@ -47,7 +46,7 @@ impl Tries {
     pub fn of(&self, ver: u64, lease: u64) -> Option<&[Try]>
         ensures { option_map (λ s. s.now) result ≡ tries_at ver lease self.now }
     {
-        Some(self.by_pair.get(&(ver, lease))?.as_slice())
+        self.held.of(ver, lease)
     }
 
     /// The pairs by version and lease, each as these two numbers in this order, with their rooms. It
@@ -56,7 +55,7 @@ impl Tries {
         ensures rest { result ≡ self.now }
         ensures ordered { IsStrictlySortedBy pair_order (keys_of self.now) }
     {
-        self.by_pair.iter()
+        self.held.iter()
     }
 
     /// The pairs of one version by lease, each as the numbers of its version and its lease, with their
@@ -65,7 +64,7 @@ impl Tries {
         requires { ver < 2 ^ 63 }
         ensures { result ≡ filter (λ e. e.0.0 == ver) self.now }
     {
-        self.by_pair.range((ver, 0)..(ver + 1, 0))
+        self.held.of_version(ver)
     }
 
     /// Gives a pair a room without tries, in which eight have their place. At an error the table is as
@@ -75,7 +74,7 @@ impl Tries {
         ensures look { OnOk result ((v n : ℕ) → tries_at v n self.new ≡ cond (is_here ver lease v n) (Some []) (tries_at v n self.old)) }
         ensures err { OnErr result (self.new ≡ self.old) }
     {
-        rooms::make(self.alloc, &mut self.by_pair, ver, lease)
+        self.held.make(self.alloc, ver, lease)
     }
 
     /// Gives each of these pairs, each a version and a lease, a room without tries, in which eight have
@@ -85,7 +84,7 @@ impl Tries {
         ensures look { OnOk result ((v n : ℕ) → tries_at v n self.new ≡ cond (is_listed v n pairs.now) (Some []) (tries_at v n self.old)) }
         ensures err { OnErr result (self.new ≡ self.old) }
     {
-        rooms::make_all(self.alloc, &mut self.by_pair, pairs)
+        rooms::make_all(self.alloc, &mut self.held, pairs)
     }
 
     /// Adds a try behind the others of its pair. It takes no memory.
@@ -93,10 +92,7 @@ impl Tries {
         requires room { IsSomeAnd (tries_at ver lease self.old) (λ tries. length tries < 8) }
         ensures look { (v n : ℕ) → tries_at v n self.new ≡ cond (is_here ver lease v n) (option_map (λ tries. tries ++ made ∷ []) (tries_at ver lease self.old)) (tries_at v n self.old) }
     {
-        match self.by_pair.get_mut(&(ver, lease)) {
-            Some(room) => room.add(made),
-            None => unreachable!(),
-        }
+        self.held.add(ver, lease, made);
     }
 
     /// Takes the room of a pair away, with its tries. It takes no memory. A pair without a room changes
@@ -104,7 +100,7 @@ impl Tries {
     pub fn give_back(&mut self, ver: u64, lease: u64)
         ensures look { (v n : ℕ) → tries_at v n self.new ≡ cond (is_here ver lease v n) None (tries_at v n self.old) }
     {
-        rooms::give_back(&mut self.by_pair, ver, lease);
+        self.held.give_back(ver, lease);
     }
 
     /// Takes the rooms of all pairs of a version away, with their tries. It takes no memory. A version
@@ -113,7 +109,24 @@ impl Tries {
         requires { ver < 2 ^ 63 }
         ensures look { (v n : ℕ) → tries_at v n self.new ≡ cond (ver == v) None (tries_at v n self.old) }
     {
-        rooms::give_back_version(&mut self.by_pair, ver);
+        rooms::give_back_version(&mut self.held, ver);
+    }
+
+    /// The lowest version, from one on, whose pair with this lease has a room. It takes no memory.
+    pub fn next_version(&self, lease: u64, from: u64) -> Option<u64>
+        ensures found { IfSome result (λ v. (from ≤ v) × IsSome (tries_at v lease self.now)) }
+        ensures passed { IfSome result (λ v. (w : ℕ) → from ≤ w → w < v → tries_at w lease self.now ≡ None) }
+        ensures none { IfNone result ((w : ℕ) → from ≤ w → tries_at w lease self.now ≡ None) }
+    {
+        self.held.next_version(lease, from)
+    }
+
+    /// Takes the rooms of all pairs of a lease away, with their tries. It takes no memory. A lease
+    /// without a room changes nothing.
+    pub fn give_back_lease(&mut self, lease: u64)
+        ensures look { (v n : ℕ) → tries_at v n self.new ≡ cond (lease == n) None (tries_at v n self.old) }
+    {
+        rooms::give_back_lease(&mut self.held, lease);
     }
 
     /// Takes the rooms of these pairs, each a version and a lease, away, with their tries. It takes no
@@ -121,6 +134,6 @@ impl Tries {
     pub fn give_back_all(&mut self, pairs: &[(u64, u64)])
         ensures look { (v n : ℕ) → tries_at v n self.new ≡ cond (is_listed v n pairs.now) None (tries_at v n self.old) }
     {
-        rooms::give_back_each(&mut self.by_pair, pairs);
+        rooms::give_back_each(&mut self.held, pairs);
     }
 }

@@ -4,7 +4,7 @@ use Rattle.ws_tries.specs.Rows.{tries_at}
 use Rattle.ws_tries.proofs.rooms.give_back_version.Given as goal
 
 abbrev pub invariant-loop-lease : goal.invariant-loop-lease
-invariant-loop-lease l = (v n : ℕ) → (l.ver == v) ≡ false → tries_at v n l.by_pair.entries ≡ tries_at v n l.fn.by_pair.entries
+invariant-loop-lease l = (v n : ℕ) → (l.ver == v) ≡ false → tries_at v n l.held ≡ tries_at v n l.fn.held
 
 abbrev pub decreases-loop-lease : goal.decreases-loop-lease
-decreases-loop-lease l = length l.by_pair.entries
+decreases-loop-lease l = length l.held

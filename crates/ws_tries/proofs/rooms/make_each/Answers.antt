@@ -7,4 +7,4 @@ use Rattle.ws_tries.proofs.rooms.make_each.Goals as goal
 pub returns-in_err-make-clause-others : goal.returns-in_err-make-clause-others
 returns-in_err-make-clause-others c v n e =
     ap (tries_at v n) c.in_err-make.ensures.err
-    ∙ others_same (Some []) c.loop-pair.pair-index c.args.pairs.now c.args.by_pair.now.entries c.loop-pair.by_pair.entries c.loop-pair.invariant v n e
+    ∙ others_same (Some []) c.loop-pair.pair-index c.args.pairs.now c.args.held.now c.loop-pair.held c.loop-pair.invariant v n e

@@ -5,9 +5,10 @@ use Rattle.std.specs.declared.cmp.Ordering.TheVariants.{Less}
 use Rattle.std.specs.List.{AllByRecursion}
 use Rattle.std.specs.List.Sorted.{IsPermutation, IsStrictlySortedBy}
 use Rattle.std.specs.Map.{keys_of}
+use Rattle.std.specs.Cmp.{IsTotalOrder, on_total}
 use Rattle.std.proofs.lemmas.Bool.{false≢true, eqb-true}
 use Rattle.std.proofs.lemmas.Bool.Decides.{nat_tests}
-use Rattle.std.proofs.lemmas.Cmp.{eq_by_cmp_equiv}
+use Rattle.std.proofs.lemmas.Cmp.{eq_by_cmp_equiv, nat_cmp_total, then_total}
 use Rattle.std.proofs.lemmas.List.{reverse-reverse}
 use Rattle.std.proofs.lemmas.List.Elements.{All-contains, All-contains_itself, All-from_recursion, recursion_from_All}
 use Rattle.std.proofs.lemmas.List.Sorted.{IsPermutation-reverse, IsPermutation-sym}
@@ -28,7 +29,6 @@ use Rattle.ws_tries.specs.declared.room.Try.{Try}
 use Rattle.ws_tries.specs.Rows.{Rows, is_here, pair_order, tries_at}
 use Rattle.ws_tries.specs.Stands.{HaveRooms, StandsFor, event_of, is_any_push, tries_of}
 use Rattle.ws_tries.proofs.Keyed.{key_test}
-use Rattle.ws_tries.proofs.Listed.{total}
 use Rattle.ws_tries.proofs.Pushes.{are_pushes}
 use Rattle.ws_tries.proofs.Tried.{untried}
 use Rattle.ws_gather.specs.Gathered.{AreGathered, has_serial}
@@ -37,6 +37,9 @@ use Rattle.ws_kept.specs.Rows.{Rows as Numbers}
 use Rattle.ws_kept.specs.Stands.{AreKept}
 use Rattle.ws_tried.specs.Kept.{is_kept_push}
 use Rattle.ws_tried.proofs.Made.{events_of, has_both, pushes_of}
+
+total : IsTotalOrder pair_order
+total = then_total (on_total (λ (x : ℕ × ℕ). x.0) nat_cmp_total) (on_total (λ (x : ℕ × ℕ). x.1) nat_cmp_total)
 
 -- a push of this pair
 abbrev is_of : ℕ → ℕ → What → Bool

@@ -1,11 +1,11 @@
 -- Leases that have expired are let go: the core stands as before, and the rooms of those that no compaction would keep are gone.
-use Rattle.std.proofs.Common.{◌≡◌, ℕ, ◌≤◌, ◌<◌, ◌^◌, Bool, true, false, cond, ◌&&◌, ◌||◌, List, [], ◌∷◌, refl, ap, sym, ◌∙◌, subst, arith, ◌⊎◌, inl, inr}
+use Rattle.std.proofs.Common.{◌≡◌, ℕ, ◌≤◌, ◌<◌, ◌^◌, Bool, true, false, cond, ◌&&◌, List, [], ◌∷◌, refl, ap, sym, ◌∙◌, subst, arith, ◌⊎◌, inl, inr}
 use Rattle.std.specs.Prelude.{◌==◌, max, nat_le, Some, None}
 use Rattle.std.specs.List.{list_any}
 use Rattle.std.specs.Option.{IsSomeAnd}
 use Rattle.std.specs.Ordering.{nat_cmp}
 use Rattle.std.specs.BTreeMap.{is_at}
-use Rattle.std.proofs.lemmas.Bool.{and_from, eqb-true, false≢true, or_parts}
+use Rattle.std.proofs.lemmas.Bool.{false≢true, or_parts}
 use Rattle.std.proofs.lemmas.Bool.Decides.{nat_tests}
 use Rattle.ws_model.specs.declared.event.Event.{Event}
 use Rattle.ws_model.specs.Leases.{expiry}
@@ -21,12 +21,12 @@ use Rattle.ws_core_tables.proofs.Reasons.{time_small}
 use Rattle.ws_ledger.specs.Rows.{Rows as LedgerRows}
 use Rattle.ws_ledger.specs.Stands.{StandsFor as LedgerStands}
 use Rattle.ws_core.specs.declared.giving_back.Touched.TheVariants.{Lease}
-use Rattle.ws_core.specs.GivenBack.{GivesBackPairs, RoomsAreGone, is_gone, is_meant, is_of_gone, is_past, touched_of}
+use Rattle.ws_core.specs.GivenBack.{GivesBackPairs, IsGone, RoomsAreGone}
+use Rattle.ws_core.specs.Past.{IsPast}
 use Rattle.ws_core.specs.Passing.{ExpiredAreGone, Passes, StayGone}
 use Rattle.ws_core.specs.Rows.{Rows}
-use Rattle.ws_core.specs.Stands.{GoesOn}
-use Rattle.ws_core.proofs.GivingBack.{and_never, not_later, not_of_gone, stays, still_none}
-use Rattle.ws_core.proofs.GoneLeases.{kept_not_gone}
+use Rattle.ws_core.specs.Stands.{GoesOn, StandsFor}
+use Rattle.ws_core.proofs.GivingBack.{lease_gone, lease_stands, still_none}
 
 -- ---- the held leases
 
@@ -56,14 +56,14 @@ none_expired t n (r ∷ rows) u e = by (is_at (nat_cmp n) r.0) e (none_expired t
 
 -- what holds while they are let go
 pub record SoFar (t : ℕ) (ledger : LedgerRows) (tries : TryRows) (later : LedgerRows) (left : TryRows) : Type 0 where
-  pub tables : (h : List Event) → LedgerStands h t ledger → LedgerStands h t later
   pub stands : Passes t ledger tries later left
-  pub none : StayGone t ledger tries left
+  pub none : StayGone tries left
   pub fates : later.fates ≡ ledger.fates
-  pub gone : (h : List Event) → LedgerStands h t ledger → Legal h → (v n : ℕ) → is_meant (Lease n) ledger.fates v ≡ true → is_gone h t ledger.fates n ≡ true → (lease_at n later.tables.leases ≡ lease_at n ledger.tables.leases) ⊎ (tries_at v n left ≡ None)
+  pub gone : (h log : List Event) (renewals : List (ℕ × ℕ)) → StandsFor h t (record { ledger = ledger; log = log; renewals = renewals; tries = tries }) → Legal h → (n : ℕ) → IsGone h t ledger.fates n
+      → (lease_at n later.tables.leases ≡ lease_at n ledger.tables.leases) ⊎ ((v : ℕ) → tries_at v n left ≡ None)
 
 pub at_first : (t : ℕ) (ledger : LedgerRows) (tries : TryRows) → SoFar t ledger tries ledger tries
-at_first t ledger tries = record { tables = λ h s. s; stands = λ h log renewals s l. s; none = λ h s l v n k. k; fates = refl; gone = λ h s l v n m g. inl refl }
+at_first t ledger tries = record { stands = λ h log renewals s l. s; none = λ v n k. k; fates = refl; gone = λ h log renewals s l n g. inl refl }
 
 same_time : (t : ℕ) → max t t ≡ t
 same_time t = omega arith
@@ -71,49 +71,53 @@ same_time t = omega arith
 module _ (t m : ℕ) (ledger : LedgerRows) (tries : TryRows) (later : LedgerRows) (left : TryRows) (last : LedgerRows) (rest : TryRows)
     (so_far : SoFar t ledger tries later left) (takes : (h : List Event) (since : ℕ) → LedgerStands h since later → LedgerStands h (max since t) last)
     (taken : TakesLease t m later.tables last.tables) (fates : last.fates ≡ later.fates) (gives : GivesBackPairs (Lease m) t last left rest) where
-  goes : (h : List Event) → LedgerStands h t later → LedgerStands h t last
-  goes h s = subst (λ u. LedgerStands h u last) (same_time t) (takes h t s)
-
   all_fates : last.fates ≡ ledger.fates
   all_fates = fates ∙ so_far.fates
 
-  one_gone : (h : List Event) (v n : ℕ) → LedgerStands h t last → Legal h → is_meant (Lease n) ledger.fates v ≡ true → is_gone h t ledger.fates n ≡ true
-      → (lease_at n later.tables.leases ≡ lease_at n ledger.tables.leases) ⊎ (tries_at v n left ≡ None)
-      → (lease_at n last.tables.leases ≡ lease_at n ledger.tables.leases) ⊎ (tries_at v n rest ≡ None)
-  one_gone h v n s l meant gone (inr none) = inr (gives h t s l (not_later t) v n ∙ still_none (is_meant (Lease m) last.fates v && is_of_gone (Lease m) h t last.fates n) (tries_at v n left) none)
-  one_gone h v n s l meant gone (inl same) = by (m == n) refl
-    where
-      by : (b : Bool) → (m == n) ≡ b → (lease_at n last.tables.leases ≡ lease_at n ledger.tables.leases) ⊎ (tries_at v n rest ≡ None)
-      by false k = inl (ap (lease_at n) taken.leases ∙ others_held m n later.tables.leases k ∙ same)
-      by true k =
-          let is = eqb-true m n k in
-          inr
-          (gives h t s l (not_later t) v n
-          ∙ ap (λ b. cond b None (tries_at v n left))
-          (and_from (is_meant (Lease m) last.fates v) (is_of_gone (Lease m) h t last.fates n)
-          ((λ j. is_meant (Lease (is j)) (all_fates j) v) ∙ meant)
-          (and_from (m == n) (is_gone h t last.fates m) k ((λ j. is_gone h t (all_fates j) (is j)) ∙ gone))))
+  module _ (h log : List Event) (renewals : List (ℕ × ℕ)) (s : StandsFor h t (record { ledger = ledger; log = log; renewals = renewals; tries = tries })) (l : Legal h) where
+    -- with the lease taken out of the tables, and its rooms still there
+    abbrev mid : Rows
+    mid = record { ledger = last; log = log; renewals = renewals; tries = left }
+
+    stands : StandsFor h t mid
+    stands =
+        let before = so_far.stands h log renewals s l in
+        record {
+          ledger = subst (λ u. LedgerStands h u last) (same_time t) (takes h t before.ledger);
+          log = before.log;
+          renewals = before.renewals;
+          tries = before.tries;
+          only = before.only;
+          rooms = before.rooms;
+          past = λ v n k. before.past v n (subst (λ (f : FateRows). IsPast h f v) fates k);
+        }
+
+    pub one_stands : StandsFor h t (record { ledger = last; log = log; renewals = renewals; tries = rest })
+    one_stands = lease_stands h t (Lease m) mid rest l gives stands
+
+    pub one_gone : (n : ℕ) → IsGone h t ledger.fates n → (lease_at n later.tables.leases ≡ lease_at n ledger.tables.leases) ⊎ ((v : ℕ) → tries_at v n left ≡ None)
+        → (lease_at n last.tables.leases ≡ lease_at n ledger.tables.leases) ⊎ ((v : ℕ) → tries_at v n rest ≡ None)
+    one_gone n gone (inr none) = inr (λ v. gives.look v n ∙ still_none (gives.all && (m == n)) (tries_at v n left) (none v))
+    one_gone n gone (inl same) = by (m == n) refl
+      where
+        by : (b : Bool) → (m == n) ≡ b → (lease_at n last.tables.leases ≡ lease_at n ledger.tables.leases) ⊎ ((v : ℕ) → tries_at v n rest ≡ None)
+        by false k = inl (ap (lease_at n) taken.leases ∙ others_held m n later.tables.leases k ∙ same)
+        by true k = inr (λ v. lease_gone h t (Lease m) mid rest l gives stands v n k (subst (λ (f : FateRows). IsGone h t f n) (sym all_fates) gone))
 
   pub one_more : SoFar t ledger tries last rest
   one_more =
       record {
-        tables = λ h s. goes h (so_far.tables h s);
-        stands = λ h log renewals s l.
-            let before = so_far.stands h log renewals s l in
-            let led = goes h before.ledger in
-            stays (λ v n. is_meant (Lease m) last.fates v && is_of_gone (Lease m) h t last.fates n) h t (record { ledger = last; log = log; renewals = renewals; tries = left }) rest (gives h t led l (not_later t))
-            (λ v n _ kept. and_never (is_meant (Lease m) last.fates v) (is_of_gone (Lease m) h t last.fates n) (not_of_gone (Lease m) h t n last (kept_not_gone h t n last led l kept)))
-            (record { ledger = led; log = before.log; renewals = before.renewals; tries = before.tries; only = before.only; rooms = before.rooms });
-        none = λ h s l v n k. gives h t (goes h (so_far.tables h s)) l (not_later t) v n ∙ still_none (is_meant (Lease m) last.fates v && is_of_gone (Lease m) h t last.fates n) (tries_at v n left) (so_far.none h s l v n k);
+        stands = one_stands;
+        none = λ v n k. gives.look v n ∙ still_none (gives.all && (m == n)) (tries_at v n left) (so_far.none v n k);
         fates = all_fates;
-        gone = λ h s l v n meant gone. one_gone h v n (goes h (so_far.tables h s)) l meant gone (so_far.gone h s l v n meant gone);
+        gone = λ h log renewals s l n gone. one_gone h log renewals s l n gone (so_far.gone h log renewals s l n gone);
       }
 
-pub all_gone : (t : ℕ) (ledger : LedgerRows) (tries : TryRows) (later : LedgerRows) (left : TryRows) → SoFar t ledger tries later left → AreUnexpired t later.tables.leases → ExpiredAreGone t ledger left
-all_gone t ledger tries later left so_far u h s l v n expired meant gone =
-    elim (so_far.gone h s l v n meant gone) [
+pub all_gone : (t : ℕ) (ledger : LedgerRows) (tries : TryRows) (later : LedgerRows) (left : TryRows) → SoFar t ledger tries later left → AreUnexpired t later.tables.leases → ExpiredAreGone t ledger tries left
+all_gone t ledger tries later left so_far u h log renewals s l v n expired gone =
+    elim (so_far.gone h log renewals s l n gone) [
       | inl same ↦ absurd (none_expired t n later.tables.leases u (subst (λ o. IsSomeAnd o (λ x. expiry x ≤ t)) (sym same) expired))
-      | inr none ↦ none
+      | inr none ↦ none v
     ]
 
 -- ---- an event, and then what has expired by its time
@@ -122,12 +126,10 @@ pub goes_past : (e : Event) (old mid : Rows) (ledger : LedgerRows) (tries : TryR
     → GoesOn e old (record { ledger = ledger; log = mid.log; renewals = mid.renewals; tries = tries })
 goes_past e old mid ledger tries goes passes h since s l le = passes (e ∷ h) mid.log mid.renewals (goes h since s l le) l
 
-pub gone_past : (e : Event) (old mid : Rows) (ledger : LedgerRows) (tries : TryRows) → GoesOn e old mid → RoomsAreGone e old mid → ledger.fates ≡ mid.ledger.fates → StayGone e.t mid.ledger mid.tries tries
+pub gone_past : (e : Event) (old mid : Rows) (ledger : LedgerRows) (tries : TryRows) → RoomsAreGone e old mid → ledger.fates ≡ mid.ledger.fates → StayGone mid.tries tries
     → RoomsAreGone e old (record { ledger = ledger; log = mid.log; renewals = mid.renewals; tries = tries })
-gone_past e old mid ledger tries goes gone fates none h since s l le v n touched past =
-    none (e ∷ h) (goes h since s l le).ledger l v n
-    (gone h since s l le v n touched
-    (subst (λ (f : FateRows). (is_past (e ∷ h) (record { tables = mid.ledger.tables; fates = f; open_pairs = mid.ledger.open_pairs }) v || is_of_gone (touched_of h e.t e.what) (e ∷ h) e.t f n) ≡ true) fates past))
+gone_past e old mid ledger tries gone fates none h since s l le v n of is_gone =
+    none v n (gone h since s l le v n of (subst (λ (f : FateRows). IsGone (e ∷ h) e.t f n) fates is_gone))
 
 -- its time is within the limit
 pub in_time : (e : Event) (h : List Event) → Legal (e ∷ h) → e.t < 2 ^ 48

@@ -1,7 +1,8 @@
 -- The core over an event, and over several that make and end no pair.
 use Rattle.std.proofs.Common.{◌≡◌, ℕ, suc, ◌+◌, ◌≤◌, ◌<◌, Bool, true, false, cond, List, [], ◌∷◌, ◌++◌, refl, ap, sym, ◌∙◌, subst, length, arith}
-use Rattle.std.specs.Prelude.{is_some, reverse, Option, Some, None}
-use Rattle.std.specs.List.{list_all}
+use Rattle.std.specs.Prelude.{bytes_eq, filter, find, is_some, reverse, Option, Some, None, ◌==◌}
+use Rattle.std.specs.List.{list_all, list_any}
+use Rattle.std.specs.Option.{option_map}
 use Rattle.std.proofs.lemmas.Bool.{and_parts, false≢true}
 use Rattle.std.proofs.lemmas.List.{append_assoc, append-nil}
 use Rattle.ws_model.specs.declared.event.Event.{Event}
@@ -10,22 +11,31 @@ use Rattle.ws_model.specs.declared.event.What.{What}
 use Rattle.ws_model.specs.declared.event.What.TheVariants.{Asked, Confirmed, Declined, Unheard, Barred, Noticed, Pinged, Fetched, Same, Unfetched, Pushed, Tally, Revoked}
 use Rattle.ws_model.specs.Legal.{Legal}
 use Rattle.ws_model.specs.Moment.{serial}
-use Rattle.ws_model.specs.Verdict.{pair_of}
+use Rattle.ws_model.specs.declared.event.Version.{Version}
+use Rattle.ws_model.specs.Verdict.{fate_of, pair_of}
+use Rattle.ws_model.specs.Versions.{is_version, versions, versions_of}
 use Rattle.ws_fate.specs.Stands.{is_quiet}
+use Rattle.ws_fate.specs.Totals.{standing}
+use Rattle.ws_fate.proofs.Stepping.{quiet_shows}
 use Rattle.ws_compaction.proofs.Dropped.{drops_lease_later, drops_version_later}
+use Rattle.ws_tries.specs.declared.room.Try.{Try}
 use Rattle.ws_tries.specs.Rows.{Rows as TryRows, is_listed, tries_at}
 use Rattle.ws_tries.specs.Stands.{Adds, HaveRooms, StandsFor as TriesStand, is_any_push}
+use Rattle.ws_kept.specs.Finding.{is_latest}
 use Rattle.ws_kept.specs.Stands.{light_event, log_of, renewals}
 use Rattle.ws_core_tables.specs.Committing.{committed, numbered}
 use Rattle.ws_ledger.specs.Births.{AreBirths, FindsBirths, FindsRenewal, makes_pairs}
 use Rattle.ws_ledger.specs.Committing.{AllGoOn as LedgerAllGoOn, are_quiet}
-use Rattle.ws_ledger.specs.Stands.{GoesOn as LedgerGoesOn}
+use Rattle.ws_ledger.specs.Rows.{Rows as LedgerRows}
+use Rattle.ws_ledger.specs.Stands.{GoesOn as LedgerGoesOn, StandsFor as LedgerStands, kept}
 use Rattle.ws_ledger.proofs.NewPairs.{nothing_born}
 use Rattle.ws_ledger.proofs.Together.{legal_past}
 use Rattle.ws_core.specs.Committing.{AllGoOn}
 use Rattle.ws_core.specs.Renewed.{listed}
 use Rattle.ws_core.specs.Rows.{Rows}
-use Rattle.ws_core.specs.Stands.{GoesOn, StandsFor}
+use Rattle.ws_core.specs.Past.{IsPast}
+use Rattle.ws_core.specs.Stands.{StandsFor}
+use Rattle.ws_core.proofs.Holding.{BearsOn, HoldsOn}
 use Rattle.ws_core.proofs.Log.{log_other, log_pushed, log_quiet, quiet_other, renewals_after, renewals_pushed, renewals_quiet}
 use Rattle.ws_core.proofs.Rooms.{only_after, pushed_tries, rooms_after, stays_absent, stays_there, tries_after}
 
@@ -33,7 +43,7 @@ use Rattle.ws_core.proofs.Rooms.{only_after, pushed_tries, rooms_after, stays_ab
 
 pub pushed_goes :
     (e : Event) (v n : ℕ) (how : How) (old new : Rows) → e.what ≡ Pushed v n how → LedgerGoesOn e old.ledger new.ledger → new.log ≡ old.log → new.renewals ≡ old.renewals
-    → Adds v n (record { serial = e.serial; t = e.t; how = how }) old.tries new.tries → GoesOn e old new
+    → Adds v n (record { serial = e.serial; t = e.t; how = how }) old.tries new.tries → HoldsOn e old new
 pushed_goes e v n how old new kind goes same_log same_renewals adds h since s l le =
     let born : AreBirths e h [] = nothing_born e h l (ap makes_pairs kind) in
     record {
@@ -47,13 +57,26 @@ pushed_goes e v n how old new kind goes same_log same_renewals adds h since s l 
           (λ w m k. absurd (false≢true k)) s.rooms;
     }
 
+pub pushed_bears : (e : Event) (v n : ℕ) (how : How) (old new : Rows) → e.what ≡ Pushed v n how → Adds v n (record { serial = e.serial; t = e.t; how = how }) old.tries new.tries → BearsOn e old new
+pushed_bears e v n how old new kind adds h since s l le =
+    record {
+      births = [];
+      born = nothing_born e h l (ap makes_pairs kind);
+      stay = stays_there v n (record { serial = e.serial; t = e.t; how = how }) old.tries new.tries adds;
+      none = λ w m _ k. stays_absent v n (record { serial = e.serial; t = e.t; how = how }) old.tries new.tries adds w m k;
+    }
+
 -- ---- anything else
+
+still_there : (b : Bool) (o : Option (List Try)) → is_some o ≡ true → is_some (cond b (Some []) o) ≡ true
+still_there true o k = refl
+still_there false o k = k
 
 pub other_goes :
     (e : Event) (births : List (ℕ × ℕ)) (found : Option (ℕ × ℕ)) (old new : Rows) → is_any_push e.what ≡ false → LedgerGoesOn e old.ledger new.ledger
     → FindsBirths e old.ledger births → FindsRenewal e old.ledger found
     → new.log ≡ old.log ++ light_event e ∷ [] → new.renewals ≡ old.renewals ++ listed found
-    → ((v n : ℕ) → tries_at v n new.tries ≡ cond (is_listed v n births) (Some []) (tries_at v n old.tries)) → GoesOn e old new
+    → ((v n : ℕ) → tries_at v n new.tries ≡ cond (is_listed v n births) (Some []) (tries_at v n old.tries)) → HoldsOn e old new
 other_goes e births found old new other goes finds renews log renewed look h since s l le =
     let born = finds h since s.ledger l le in
     record {
@@ -63,13 +86,19 @@ other_goes e births found old new other goes finds renews log renewed look h sin
       tries = tries_after e h births old.tries new.tries l.0 other born look s.tries;
       only = only_after e h births old.tries new.tries born (λ v n q k. look v n ∙ ap (λ b. cond b (Some []) (tries_at v n old.tries)) q ∙ k) s.only;
       rooms =
-          rooms_after e h since births old.tries new.tries l le born (λ v n k. ap is_some (look v n) ∙ by v n (is_listed v n births) k)
+          rooms_after e h since births old.tries new.tries l le born (λ v n k. ap is_some (look v n) ∙ still_there (is_listed v n births) (tries_at v n old.tries) k)
           (λ v n q. ap is_some (look v n ∙ ap (λ b. cond b (Some []) (tries_at v n old.tries)) q)) s.rooms;
     }
-  where
-    by : (v n : ℕ) (b : Bool) → is_some (tries_at v n old.tries) ≡ true → is_some (cond b (Some []) (tries_at v n old.tries)) ≡ true
-    by v n true k = refl
-    by v n false k = k
+
+pub other_bears :
+    (e : Event) (births : List (ℕ × ℕ)) (old new : Rows) → FindsBirths e old.ledger births → ((v n : ℕ) → tries_at v n new.tries ≡ cond (is_listed v n births) (Some []) (tries_at v n old.tries)) → BearsOn e old new
+other_bears e births old new finds look h since s l le =
+    record {
+      births = births;
+      born = finds h since s.ledger l le;
+      stay = λ v n k. ap is_some (look v n) ∙ still_there (is_listed v n births) (tries_at v n old.tries) k;
+      none = λ v n q k. look v n ∙ ap (λ b. cond b (Some []) (tries_at v n old.tries)) q ∙ k;
+    }
 
 -- the births have no rooms yet
 pub without_rooms : (e : Event) (h : List Event) (births : List (ℕ × ℕ)) (since : ℕ) (rows : Rows) → StandsFor h since rows → AreBirths e h births → (v n : ℕ) → is_listed v n births ≡ true → tries_at v n rows.tries ≡ None
@@ -125,19 +154,53 @@ log_all t (w ∷ ws) h q =
     let parts = and_parts (is_quiet w) (list_all is_quiet ws) q in
     log_all t ws (e ∷ h) parts.1 ∙ ap (λ es. es ++ numbered t ws (e ∷ h)) (log_quiet e h parts.0) ∙ append_assoc (log_of h) (e ∷ []) (numbered t ws (e ∷ h))
 
+-- no version is past afterwards that wasn't
+same_latest : (v : ℕ) (e : Event) (h : List Event) → is_quiet e.what ≡ true → is_latest (e ∷ h) v ≡ is_latest h v
+same_latest v e h q = ap (λ (vs : List Version). list_any (λ w. w.ver == v) (filter (λ w. is_version w.ver (find (λ x. bytes_eq x.topic w.topic) vs)) vs)) (ap (λ vs. vs ++ versions h) (no_version e.what q))
+  where
+    no_version : (w : What) → is_quiet w ≡ true → versions_of w ≡ []
+    no_version (Fetched v) q = absurd (false≢true q)
+    no_version _ q = refl
+
+latest_all : (v t : ℕ) (whats : List What) (h : List Event) → are_quiet whats ≡ true → is_latest (committed t whats h) v ≡ is_latest h v
+latest_all v t [] h q = refl
+latest_all v t (w ∷ ws) h q =
+    let e : Event = record { serial = suc (serial h); t = t; what = w } in
+    let parts = and_parts (is_quiet w) (list_all is_quiet ws) q in
+    latest_all v t ws (e ∷ h) parts.1 ∙ same_latest v e h parts.0
+
+fates_all : (v n t : ℕ) (whats : List What) (h : List Event) → Legal (committed t whats h) → are_quiet whats ≡ true → fate_of h v n t ≡ fate_of (committed t whats h) v n t
+fates_all v n t [] h l q = refl
+fates_all v n t (w ∷ ws) h l q =
+    let e : Event = record { serial = suc (serial h); t = t; what = w } in
+    let parts = and_parts (is_quiet w) (list_all is_quiet ws) q in
+    quiet_shows e h (legal_past t ws (e ∷ h) l) parts.0 v n ∙ fates_all v n t ws (e ∷ h) l parts.1
+
+past_before :
+    (t : ℕ) (whats : List What) (h : List Event) (since v : ℕ) (old new : LedgerRows) → Legal (committed t whats h) → since ≤ t → are_quiet whats ≡ true → LedgerStands h since old → LedgerStands (committed t whats h) t new
+    → IsPast (committed t whats h) new.fates v → IsPast h old.fates v
+past_before t whats h since v old new l le quiet s after past =
+    record {
+      low = past.low;
+      superseded = sym (latest_all v t whats h quiet) ∙ past.superseded;
+      closed = λ n k. past.closed n (after.shows t v n (omega arith) ∙ ap (λ o. option_map kept (option_map standing o)) (sym (fates_all v n t whats h l quiet)) ∙ sym (s.shows t v n le) ∙ k);
+    }
+
 pub all_go_on :
     (t : ℕ) (whats : List What) (events : List Event) (old new : Rows) → are_quiet whats ≡ true → LedgerAllGoOn t whats old.ledger new.ledger
     → ((h : List Event) (since : ℕ) → StandsFor h since old → events ≡ numbered t whats h)
     → new.log ≡ old.log ++ events → new.renewals ≡ old.renewals → new.tries ≡ old.tries → AllGoOn t whats old new
 all_go_on t whats events old new quiet goes are log same_renewals same_tries h since s l le =
     let b = beside_all t whats h since old l le quiet (record { renewed = s.renewals; tries = s.tries; only = s.only; rooms = s.rooms }) in
+    let after = goes h since s.ledger l le in
     record {
-      ledger = goes h since s.ledger l le;
+      ledger = after;
       log = log ∙ (λ j. s.log j ++ are h since s j) ∙ sym (log_all t whats h quiet);
       renewals = same_renewals ∙ b.renewed;
       tries = subst (TriesStand (committed t whats h)) (sym same_tries) b.tries;
       only = subst (λ (rows : TryRows). (v n : ℕ) → pair_of (committed t whats h) v n ≡ None → tries_at v n rows ≡ None) (sym same_tries) b.only;
       rooms = subst (HaveRooms (committed t whats h) t) (sym same_tries) b.rooms;
+      past = λ v n k. ap (tries_at v n) same_tries ∙ s.past v n (past_before t whats h since v old.ledger new.ledger l le quiet s.ledger after k);
     }
 
 -- there are as many events

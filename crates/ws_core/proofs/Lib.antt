@@ -1,9 +1,13 @@
 pub mod Following
+pub mod Holding
+pub mod Past
 pub mod Rooms
 pub mod Log
 pub mod Going
 pub mod SameRooms
 pub mod AllKept
 pub mod GoneLeases
+pub mod Turning
+pub mod Walking
 pub mod GivingBack
 pub mod Expiring

@@ -169,7 +169,7 @@ same_numbers : (v n : ℕ) (p : Pair) → ((p.version.ver == v) && (p.lease.inte
 same_numbers v n p k = let q = and_parts (p.version.ver == v) (p.lease.intent.n == n) k in (eqb-true p.version.ver v q.0, eqb-true p.lease.intent.n n q.1)
 
 -- it is of a kept version and a kept lease
-owed_pair : (h : List Event) (t v n : ℕ) → Legal h → list_any (λ p. (p.version.ver == v) && (p.lease.intent.n == n)) (owed h t) ≡ true
+pub owed_pair : (h : List Event) (t v n : ℕ) → Legal h → list_any (λ p. (p.version.ver == v) && (p.lease.intent.n == n)) (owed h t) ≡ true
     → (is_some (pair_of h v n) ≡ true) × ((is_kept_version h t v ≡ true) × (member n (kept_leases h t) ≡ true))
 owed_pair h t v n l k =
     any_then (IsOwedPair h t) (λ p. (p.version.ver == v) && (p.lease.intent.n == n)) ((is_some (pair_of h v n) ≡ true) × ((is_kept_version h t v ≡ true) × (member n (kept_leases h t) ≡ true)))

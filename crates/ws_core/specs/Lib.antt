@@ -1,5 +1,6 @@
 pub mod Renewed
 pub mod Rows
+pub mod Past
 pub mod Stands
 pub mod Follows
 pub mod Committing

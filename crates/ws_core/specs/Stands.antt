@@ -7,11 +7,12 @@ use Rattle.ws_tries.specs.Rows.{tries_at}
 use Rattle.ws_tries.specs.Stands.{HaveRooms, StandsFor as TriesStand}
 use Rattle.ws_kept.specs.Stands.{log_of, renewals}
 use Rattle.ws_ledger.specs.Stands.{StandsFor as LedgerStands}
+use Rattle.ws_core.specs.Past.{IsPast}
 use Rattle.ws_core.specs.Rows.{Rows}
 
 -- From the moment `since` on the ledger stands for the history. The log has its events but the pushes, and each of its renewals stands
--- beside it. A pair that has a room is one of the history, with exactly its pushes there, and each pair that a compaction would keep has
--- one.
+-- beside it. A pair that has a room is one of the history, with exactly its pushes there, each pair that a compaction would keep has one,
+-- and none of a version that no compaction would keep.
 pub record StandsFor (h : List Event) (since : ℕ) (rows : Rows) : Type 0 where
   pub ledger : LedgerStands h since rows.ledger
   pub log : rows.log ≡ log_of h
@@ -19,6 +20,7 @@ pub record StandsFor (h : List Event) (since : ℕ) (rows : Rows) : Type 0 where
   pub tries : TriesStand h rows.tries
   pub only : (v n : ℕ) → pair_of h v n ≡ None → tries_at v n rows.tries ≡ None
   pub rooms : HaveRooms h since rows.tries
+  pub past : (v n : ℕ) → IsPast h rows.ledger.fates v → tries_at v n rows.tries ≡ None
 
 -- what stands for a history goes over to what stands for the history with the event
 abbrev pub GoesOn : Event → Rows → Rows → Type 0

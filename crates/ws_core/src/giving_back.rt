@@ -1,7 +1,6 @@
 // Rooms that are given back: those of versions and of leases that no compaction would keep. It takes no
 // memory.
-ghost use Rattle.std.specs.Prelude.{◌≡◌, ◌==◌, ◌<◌, ◌≤◌, ◌^◌, ◌&&◌, ℕ, List, None, cond, false, true, filter};
-ghost use Rattle.std.specs.List.{list_any};
+ghost use Rattle.std.specs.Prelude.{◌≡◌, ◌==◌, ◌<◌, ◌≤◌, ◌^◌, ℕ, List, None, Some, false, true, is_some};
 ghost use Rattle.ws_model.specs.declared.event.Event.{Event};
 ghost use Rattle.ws_model.specs.declared.event.What.TheVariants.{Confirmed};
 ghost use Rattle.ws_model.specs.Intents.{notices};
@@ -13,11 +12,11 @@ ghost use Rattle.ws_model.specs.Versions.{latest_of};
 ghost use Rattle.ws_compaction.specs.Least.{has_number};
 ghost use Rattle.ws_tries.specs.Rows.{tries_at};
 ghost use Rattle.ws_tries.specs.Stands.{is_any_push};
-ghost use Rattle.ws_kept.specs.Finding.{is_replaced, went_over};
 ghost use Rattle.ws_core_tables.specs.Stands.{StandsFor as TablesStand};
 ghost use Rattle.ws_ledger.specs.Stands.{CanFollow, StandsFor as LedgerStands};
 ghost use Rattle.ws_core.specs.declared.giving_back.Touched.TheVariants.{Lease};
-ghost use Rattle.ws_core.specs.GivenBack.{GivesBack, GivesBackPairs, former, is_gone, is_meant, is_over, is_past, of_lease, touched_by_confirmation, touched_by_push, touched_of};
+ghost use Rattle.ws_core.specs.GivenBack.{GivesBack, GivesBackPairs, HasHeir, former, is_handed_on, is_meant, is_over, of_lease, touched_by_confirmation, touched_by_push, touched_of};
+ghost use Rattle.ws_core.specs.Past.{IsPast};
 
 use ws_core_tables::Tables;
 use ws_fate::{Fates, Standing};
@@ -29,7 +28,7 @@ use ws_tries::Tries;
 /// The number of a version or a lease is below it.
 const NUMBER_LIMIT: u64 = 9_223_372_036_854_775_808;
 
-/// What an event touches, so that rooms may go: a version, or a lease with all its versions.
+/// What an event touches, so that rooms may go: a version, or a lease.
 #[derive(Clone, Copy)]
 pub(crate) enum Touched {
     Nothing,
@@ -39,7 +38,7 @@ pub(crate) enum Touched {
 
 // ---- what is touched
 
-/// What a push touches that ended: its version, and with a 410 all versions of its lease.
+/// What a push touches that ended: its version, and with a 410 its lease.
 pub(crate) fn touched_by_push(ver: u64, lease: u64, how: How) -> Touched
     ensures { result ≡ touched_by_push ver lease how }
 {
@@ -94,22 +93,24 @@ fn former(tables: &Tables, topic: &[u8]) -> Touched
     }
 }
 
-// ---- what is given back
+// ---- versions
 
-/// Takes the rooms of the touched versions away, where no compaction would keep them.
+/// Takes the rooms of the touched version away, or of those versions of the touched lease whose pairs with
+/// it have rooms, where no compaction would keep the version any more.
 pub(crate) fn give_back(ledger: &Ledger, tries: &mut Tries, touched: Touched)
-    ensures { GivesBack (is_meant touched ledger.now.fates) ledger.now tries.old tries.new }
+    ensures { GivesBack (is_meant touched tries.old) ledger.now tries.old tries.new }
 {
     match touched {
         Touched::Nothing => {}
         Touched::Version(ver) => give_back_version(ledger, tries, ver),
-        Touched::Lease(lease) => give_back_lease(ledger, tries, lease),
+        Touched::Lease(lease) => give_back_each(ledger, tries, lease),
     }
 }
 
 /// Takes the rooms of a version away, where no compaction would keep it.
 fn give_back_version(ledger: &Ledger, tries: &mut Tries, ver: u64)
-    ensures { GivesBack (λ v. ver == v) ledger.now tries.old tries.new }
+    ensures gives { GivesBack (λ v. ver == v) ledger.now tries.old tries.new }
+    ensures others { (v n : ℕ) → (ver == v) ≡ false → tries_at v n tries.new ≡ tries_at v n tries.old }
 {
     if is_past(ledger, ver) {
         tries.give_back_version(ver);
@@ -119,37 +120,38 @@ fn give_back_version(ledger: &Ledger, tries: &mut Tries, ver: u64)
 /// Whether no compaction would keep a version: no pair of it stands open, and it isn't the latest of its
 /// topic.
 fn is_past(ledger: &Ledger, ver: u64) -> bool
-    ensures stands { (h : List Event) (since : ℕ) → LedgerStands h since ledger.now → Legal h → result ≡ is_past h ledger.now ver }
+    ensures past { result ≡ true → (h : List Event) (since : ℕ) → LedgerStands h since ledger.now → Legal h → IsPast h ledger.now.fates ver }
+    ensures kept { result ≡ false → (h : List Event) (since : ℕ) → LedgerStands h since ledger.now → Legal h → IsPast h ledger.now.fates ver → ⊥ }
     ensures low { result ≡ true → ver < 2 ^ 63 }
 {
     if ver >= NUMBER_LIMIT {
         return false;
     }
-    if ledger.fates().open_of(ver) > 0 {
+    let fates = ledger.fates();
+    // That each pair is found by its numbers is known from how many there are.
+    let _ = fates.count();
+    if fates.open_of(ver) > 0 {
         return false;
     }
     !is_latest(ledger.tables(), ver)
 }
 
-/// Takes the rooms of all versions of a lease away that no compaction would keep.
-fn give_back_lease(ledger: &Ledger, tries: &mut Tries, lease: u64)
-    ensures { GivesBack (is_meant (Lease lease) ledger.now.fates) ledger.now tries.old tries.new }
-{
-    if lease < NUMBER_LIMIT {
-        give_back_each(ledger, tries, lease);
-    }
-}
-
+/// Takes the rooms of those versions away whose pairs with the lease have rooms, where no compaction would
+/// keep the version.
 fn give_back_each(ledger: &Ledger, tries: &mut Tries, lease: u64)
-    requires { lease < 2 ^ 63 }
-    ensures { GivesBack (λ v. list_any (λ e. e.0.1 == v) (filter (λ e. e.0.0 == lease) ledger.now.fates.pairs)) ledger.now tries.old tries.new }
+    ensures { GivesBack (λ v. is_some (tries_at v lease tries.old)) ledger.now tries.old tries.new }
 {
-    for (pair, _) in ledger.fates().pairs_of(lease) {
-        give_back_version(ledger, tries, pair.1);
+    let mut from = 0;
+    while let Some(ver) = tries.next_version(lease, from) {
+        if ver >= NUMBER_LIMIT {
+            return;
+        }
+        give_back_version(ledger, tries, ver);
+        from = ver + 1;
     }
 }
 
-// ---- the pairs of a lease that is gone
+// ---- leases
 
 /// Takes the rooms of all pairs of the touched lease away, where no compaction at `t`, in seconds, would keep
 /// it: `t` is the time of the event, which was applied.
@@ -158,42 +160,29 @@ pub(crate) fn give_back_pairs(ledger: &Ledger, tries: &mut Tries, touched: Touch
 {
     match touched {
         Touched::Nothing | Touched::Version(_) => {}
-        Touched::Lease(lease) => give_back_pairs_of(ledger, tries, lease, t),
+        Touched::Lease(lease) => give_back_lease(ledger, tries, lease, t),
     }
 }
 
 /// Takes the rooms of all pairs of a lease away, where no compaction at `t` would keep it.
-fn give_back_pairs_of(ledger: &Ledger, tries: &mut Tries, lease: u64, t: u64)
+fn give_back_lease(ledger: &Ledger, tries: &mut Tries, lease: u64, t: u64)
     ensures { GivesBackPairs (Lease lease) t ledger.now tries.old tries.new }
 {
-    if lease >= NUMBER_LIMIT {
-        return;
-    }
-    if is_gone(ledger, lease, t) {
-        give_back_all(ledger.fates(), tries, lease);
+    if is_without_heirs(ledger, tries, lease, t) {
+        tries.give_back_lease(lease);
     }
 }
 
-/// Takes the rooms of all pairs of a lease away.
-fn give_back_all(fates: &Fates, tries: &mut Tries, lease: u64)
-    requires { lease < 2 ^ 63 }
-    ensures { (v n : ℕ) → tries_at v n tries.new ≡ cond (list_any (λ e. e.0.1 == v) (filter (λ e. e.0.0 == lease) fates.now.pairs) && (lease == n)) None (tries_at v n tries.old) }
-{
-    for (pair, _) in fates.pairs_of(lease) {
-        tries.give_back(pair.1, lease);
-    }
-}
-
-/// Whether no compaction at `t` would keep a lease: it is over, and none of its pairs went over to one that
-/// replaced it.
-fn is_gone(ledger: &Ledger, lease: u64, t: u64) -> bool
-    requires { lease < 2 ^ 63 }
-    ensures stands { (h : List Event) (since : ℕ) → LedgerStands h since ledger.now → Legal h → since ≤ t → result ≡ is_gone h t ledger.now.fates lease }
+/// Whether a lease is over, and none of its pairs that have rooms went over to a lease that replaced it.
+fn is_without_heirs(ledger: &Ledger, tries: &Tries, lease: u64, t: u64) -> bool
+    ensures over { result ≡ true → (h : List Event) (since : ℕ) → LedgerStands h since ledger.now → Legal h → since ≤ t → is_over h t lease ≡ true }
+    ensures none { result ≡ true → HasHeir tries.now ledger.now.fates lease → ⊥ }
+    ensures heir { result ≡ false → (h : List Event) (since : ℕ) → LedgerStands h since ledger.now → Legal h → since ≤ t → is_over h t lease ≡ true → HasHeir tries.now ledger.now.fates lease }
 {
     if !is_over(ledger.tables(), lease, t) {
         return false;
     }
-    !went_over(ledger.fates(), lease)
+    !went_over(ledger.fates(), tries, lease)
 }
 
 /// Whether a lease isn't live at `t`, and no notice of it is owed. Where `t` isn't the greatest time so far it
@@ -230,22 +219,27 @@ fn is_noticed(tables: &Tables, lease: u64) -> bool
     }
 }
 
-/// Whether a pair of a lease ended because the lease was replaced.
-fn went_over(fates: &Fates, lease: u64) -> bool
-    requires { lease < 2 ^ 63 }
-    ensures { result ≡ went_over (λ v. true) lease fates.now.pairs }
+/// Whether a pair of a lease that has a room ended because the lease was replaced.
+fn went_over(fates: &Fates, tries: &Tries, lease: u64) -> bool
+    ensures heir { result ≡ true → HasHeir tries.now fates.now lease }
+    ensures none { result ≡ false → HasHeir tries.now fates.now lease → ⊥ }
 {
-    for (_, standing) in fates.pairs_of(lease) {
-        if is_replaced(*standing) {
+    let mut from = 0;
+    while let Some(ver) = tries.next_version(lease, from) {
+        if ver >= NUMBER_LIMIT {
+            return false;
+        }
+        if is_handed_on(fates.get(ver, lease)) {
             return true;
         }
+        from = ver + 1;
     }
     false
 }
 
 /// Whether a pair ended because its lease was replaced.
-fn is_replaced(standing: Standing) -> bool
-    ensures { result ≡ is_replaced standing }
+fn is_handed_on(standing: Option<Standing>) -> bool
+    ensures { result ≡ is_handed_on standing }
 {
-    matches!(standing, Standing::Ended(Cause::Replaced))
+    matches!(standing, Some(Standing::Ended(Cause::Replaced)))
 }

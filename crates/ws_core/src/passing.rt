@@ -13,8 +13,8 @@ pub(crate) fn let_go(ledger: &mut Ledger, tries: &mut Tries, t: u64)
     requires in_time { t < 2 ^ 48 }
     ensures stands { Passes t ledger.old tries.old ledger.new tries.new }
     ensures unexpired { AreUnexpired t ledger.new.tables.leases }
-    ensures gone { ExpiredAreGone t ledger.old tries.new }
-    ensures none { StayGone t ledger.old tries.old tries.new }
+    ensures gone { ExpiredAreGone t ledger.old tries.old tries.new }
+    ensures none { StayGone tries.old tries.new }
     ensures fates { ledger.new.fates ≡ ledger.old.fates }
 {
     while let Some(lease) = ledger.take_expired(t) {

@@ -47,6 +47,7 @@ stands_later h since t rows s l le =
       tries = s.tries;
       only = s.only;
       rooms = rooms_later h since t rows.tries l le s.rooms;
+      past = s.past;
     }
 
 pub holds_later : (core : Rows) (used t count : ℕ) (h : List Event) → Holds core used count h → used ≤ t → Holds core t count h

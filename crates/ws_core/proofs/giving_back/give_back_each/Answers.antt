@@ -1,23 +1,14 @@
-use Rattle.std.proofs.Common.{◌&&◌, ◌∙◌, ap, sym}
-use Rattle.std.specs.Prelude.{cond, None, ◌==◌}
-use Rattle.std.specs.List.{list_any}
-use Rattle.ws_tries.specs.Rows.{tries_at}
-use Rattle.ws_core.specs.GivenBack.{is_past}
-use Rattle.ws_core.proofs.GivingBack.{one_back}
+use Rattle.ws_core.proofs.Walking.{all_back, all_back_below, one_back}
 use Rattle.ws_core.proofs.giving_back.give_back_each.Goals as goal
 
-pub loop-pair-preserved : goal.loop-pair-preserved
-loop-pair-preserved c =
-    record {
-      next = tt;
-      finite = tt;
-      so_far = λ h since s l v n.
-          one_back (c.in-Some.pair.now.1 == v) _ (is_past h c.args.ledger.now v) (tries_at v n c.give_back_version.new.tries) (tries_at v n c.loop-pair.tries) _
-          (c.give_back_version.ensures h since s l v n)
-          (sym (ap (λ es. cond (list_any (λ e. e.0.1 == v) es && is_past h c.args.ledger.now v) None (tries_at v n c.loop-pair.tries)) c.in-Some.ensures.steps) ∙ c.loop-pair.invariant.so_far h since s l v n);
-    }
+pub returns-then-ver-ge-NUMBER_LIMIT : goal.returns-then-ver-ge-NUMBER_LIMIT
+returns-then-ver-ge-NUMBER_LIMIT c =
+    all_back_below c.args.lease c.loop-ver.from c.args.ledger.now c.args.tries.now c.loop-ver.tries c.loop-ver.invariant c.in-Some.ver c.in-Some.ensures.found.0 c.in-Some.ensures.passed c.if-ver-ge-NUMBER_LIMIT.true
+
+pub loop-ver-preserved : goal.loop-ver-preserved
+loop-ver-preserved c =
+    one_back c.args.lease c.loop-ver.from c.args.ledger.now c.args.tries.now c.loop-ver.tries c.loop-ver.invariant c.in-Some.ver c.in-Some.ensures.found.0 c.in-Some.ensures.passed c.give_back_version.new.tries c.if-ver-ge-NUMBER_LIMIT.false
+    c.give_back_version.ensures.gives c.give_back_version.ensures.others
 
 pub returns : goal.returns
-returns c h since s l v n =
-    sym (ap (λ es. cond (list_any (λ e. e.0.1 == v) es && is_past h c.args.ledger.now v) None (tries_at v n c.loop-pair.tries)) c.in-None.ensures.steps.0)
-    ∙ c.loop-pair.invariant.so_far h since s l v n
+returns c = all_back c.args.lease c.loop-ver.from c.args.ledger.now c.args.tries.now c.loop-ver.tries c.loop-ver.invariant c.in_default.ensures.none

@@ -1,19 +1,10 @@
-use Rattle.std.proofs.Common.{◌≡◌, ◌&&◌, ℕ, List}
-use Rattle.std.specs.Prelude.{cond, filter, None, ◌==◌}
-use Rattle.std.specs.List.{list_any}
-use Rattle.ws_model.specs.declared.event.Event.{Event}
-use Rattle.ws_model.specs.Legal.{Legal}
-use Rattle.ws_tries.specs.Rows.{tries_at}
-use Rattle.ws_ledger.specs.Stands.{StandsFor as LedgerStands}
-use Rattle.ws_core.specs.GivenBack.{is_past}
+use Rattle.std.proofs.Common.{◌-◌}
+use Rattle.ws_model.specs.Legal.{number_limit}
+use Rattle.ws_core.proofs.Walking.{WentBack}
 use Rattle.ws_core.proofs.giving_back.give_back_each.Given as goal
 
--- with the rooms of those that are left given back, all are
-abbrev pub invariant-loop-pair : goal.invariant-loop-pair
-invariant-loop-pair l =
-    record {
-      next : (goal.iterator-loop-pair).can_next l.pair-iterator;
-      finite : (goal.iterator-loop-pair).is_finite l.pair-iterator;
-      so_far : (h : List Event) (since : ℕ) → LedgerStands h since l.ledger → Legal h
-          → (v n : ℕ) → cond (list_any (λ e. e.0.1 == v) l.pair-iterator && is_past h l.ledger v) None (tries_at v n l.tries) ≡ cond (list_any (λ e. e.0.1 == v) (filter (λ e. e.0.0 == l.lease) l.ledger.fates.pairs) && is_past h l.ledger v) None (tries_at v n l.fn.tries);
-    }
+abbrev pub invariant-loop-ver : goal.invariant-loop-ver
+invariant-loop-ver l = WentBack l.lease l.from l.ledger l.fn.tries l.tries
+
+abbrev pub decreases-loop-ver : goal.decreases-loop-ver
+decreases-loop-ver l = number_limit - l.from

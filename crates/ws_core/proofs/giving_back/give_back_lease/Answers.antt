@@ -1,10 +1,9 @@
-use Rattle.std.proofs.Common.{ap, ◌∙◌}
-use Rattle.std.specs.Prelude.{cond, None}
-use Rattle.ws_tries.specs.Rows.{tries_at}
-use Rattle.ws_core.specs.GivenBack.{is_past}
-use Rattle.ws_core.proofs.GivingBack.{below_limit}
+use Rattle.ws_core.proofs.Walking.{rooms_go, rooms_stay}
 use Rattle.ws_core.proofs.giving_back.give_back_lease.Goals as goal
 
-pub returns-then-lease-lt-NUMBER_LIMIT : goal.returns-then-lease-lt-NUMBER_LIMIT
-returns-then-lease-lt-NUMBER_LIMIT c h since s l v n =
-    c.give_back_each.ensures h since s l v n ∙ ap (λ b. cond b None (tries_at v n c.args.tries.now)) (below_limit c.args.lease _ (is_past h c.args.ledger.now v) c.if-lease-lt-NUMBER_LIMIT.true)
+pub returns-then-is_without_heirs : goal.returns-then-is_without_heirs
+returns-then-is_without_heirs c =
+    rooms_go c.args.lease c.args.t c.args.ledger.now c.args.tries.now c.give_back_lease.new.self c.give_back_lease.ensures.look (c.is_without_heirs.ensures.over c.if-is_without_heirs.true) (c.is_without_heirs.ensures.none c.if-is_without_heirs.true)
+
+pub returns-else-is_without_heirs : goal.returns-else-is_without_heirs
+returns-else-is_without_heirs c = rooms_stay c.args.lease c.args.t c.args.ledger.now c.args.tries.now (c.is_without_heirs.ensures.heir c.if-is_without_heirs.false)

@@ -1,4 +1,4 @@
-use Rattle.std.proofs.Common.{◌≡◌, true, ap, ◌∙◌, ◌++◌, ◌∷◌, [], sym, subst}
+use Rattle.std.proofs.Common.{◌≡◌, ℕ, true, ap, ◌∙◌, ◌++◌, ◌∷◌, [], sym, subst}
 use Rattle.ws_tries.specs.Rows.{is_listed, tries_at}
 use Rattle.std.specs.Prelude.{cond, Some}
 use Rattle.ws_core.specs.GivenBack.{RoomsAreGone}
@@ -6,8 +6,8 @@ use Rattle.ws_core.specs.Renewed.{listed}
 use Rattle.ws_core.specs.Rows.{Rows}
 use Rattle.ws_core.specs.Stands.{GoesOn, StandsFor}
 use Rattle.ws_core.proofs.Expiring.{goes_past, gone_past, in_time}
-use Rattle.ws_core.proofs.GivingBack.{goes_on_without, rooms_gone}
-use Rattle.ws_core.proofs.Going.{other_goes, without_rooms}
+use Rattle.ws_core.proofs.GivingBack.{goes_back, goes_on_without, rooms_gone}
+use Rattle.ws_core.proofs.Going.{other_bears, other_goes, without_rooms}
 use Rattle.ws_core.proofs.whole.Core.apply_other.Goals as goal
 
 pub apply_with_rooms-requires-clause-new : goal.apply_with_rooms-requires-clause-new
@@ -24,17 +24,22 @@ pub returns : goal.returns
 returns c =
     let old : Rows = record { ledger = c.self.inside.ledger; log = c.self.inside.log.items; renewals = c.self.inside.renewals.items; tries = c.self.inside.tries } in
     let mid : Rows = record { ledger = c.apply_with_rooms.new.ledger; log = c.push_reserved.new.self.items; renewals = c.add_reserved.new.renewals.items; tries = c.apply_with_rooms.new.tries } in
+    let less : Rows = record { ledger = c.apply_with_rooms.new.ledger; log = c.push_reserved.new.self.items; renewals = c.add_reserved.new.renewals.items; tries = c.give_back.new.tries } in
     let rest : Rows = record { ledger = c.apply_with_rooms.new.ledger; log = c.push_reserved.new.self.items; renewals = c.add_reserved.new.renewals.items; tries = c.give_back_pairs.new.tries } in
     let new : Rows = record { ledger = c.let_go.new.ledger; log = c.push_reserved.new.self.items; renewals = c.add_reserved.new.renewals.items; tries = c.let_go.new.tries } in
+    let rooms : (v n : ℕ) → tries_at v n mid.tries ≡ cond (is_listed v n c.in_ok-births.births.items) (Some []) (tries_at v n old.tries) =
+    λ v n. c.in_ok-apply_with_rooms.ensures.rooms v n ∙ ap (λ ps. cond (is_listed v n ps) (Some []) (tries_at v n c.self.inside.tries)) c.deref.ensures.value in
     let goes = other_goes c.args.event.now c.in_ok-births.births.items c.renewal-renewal.result old mid c.requires.other c.in_ok-apply_with_rooms.ensures.ledger c.in_ok-births.ensures c.renewal-renewal.ensures
     (c.push_reserved.ensures.items ∙ (λ j. c.in_ok-reserve.ensures.items j ++ c.in_ok-entry.ensures j ∷ []))
     (c.add_reserved.ensures ∙ ap (λ rs. rs ++ listed c.renewal-renewal.result) c.in_ok-reserve-2.ensures.items)
-    (λ v n. c.in_ok-apply_with_rooms.ensures.rooms v n ∙ ap (λ ps. cond (is_listed v n ps) (Some []) (tries_at v n c.self.inside.tries)) c.deref.ensures.value) in
-    let left = goes_on_without c.args.event.now c.touched_by-touched.result old mid c.give_back.new.tries c.give_back_pairs.new.tries goes c.give_back.ensures c.give_back_pairs.ensures in
-    let gone = rooms_gone c.args.event.now c.touched_by-touched.result old mid c.give_back.new.tries c.give_back_pairs.new.tries goes c.give_back.ensures c.give_back_pairs.ensures (λ h since s l le. c.touched_by-touched.ensures.stands h since s.ledger l le) in
+    rooms in
+    let bears = other_bears c.args.event.now c.in_ok-births.births.items old mid c.in_ok-births.ensures rooms in
+    let back = goes_back c.args.event.now c.touched_by-touched.result old mid c.give_back.new.tries goes bears c.give_back.ensures (λ h since s l le. c.touched_by-touched.ensures.stands h since s.ledger l le) in
+    let left = goes_on_without c.args.event.now c.touched_by-touched.result old less c.give_back_pairs.new.tries back c.give_back_pairs.ensures in
+    let gone = rooms_gone c.args.event.now c.touched_by-touched.result old less c.give_back_pairs.new.tries back c.give_back_pairs.ensures (λ h since s l le. c.touched_by-touched.ensures.stands h since s.ledger l le) in
     record {
       ok = subst (λ (r : Rows). GoesOn c.args.event.now r new) c.self.view_is (goes_past c.args.event.now old rest c.let_go.new.ledger c.let_go.new.tries left c.let_go.ensures.stands);
-      gone = subst (λ (r : Rows). RoomsAreGone c.args.event.now r new) c.self.view_is (gone_past c.args.event.now old rest c.let_go.new.ledger c.let_go.new.tries left gone c.let_go.ensures.fates c.let_go.ensures.none);
+      gone = subst (λ (r : Rows). RoomsAreGone c.args.event.now r new) c.self.view_is (gone_past c.args.event.now old rest c.let_go.new.ledger c.let_go.new.tries gone c.let_go.ensures.fates c.let_go.ensures.none);
       unexpired = c.let_go.ensures.unexpired;
       err = tt;
     }

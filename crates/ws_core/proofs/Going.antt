@@ -22,7 +22,7 @@ use Rattle.ws_tries.specs.declared.room.Try.{Try}
 use Rattle.ws_tries.specs.Rows.{Rows as TryRows, is_listed, tries_at}
 use Rattle.ws_tries.specs.Stands.{Adds, HaveRooms, StandsFor as TriesStand, is_any_push}
 use Rattle.ws_kept.specs.Finding.{is_latest}
-use Rattle.ws_kept.specs.Stands.{light_event, log_of, renewals}
+use Rattle.ws_kept.specs.Stands.{AreRenewed, IsLogged, light_event}
 use Rattle.ws_core_tables.specs.Committing.{committed, numbered}
 use Rattle.ws_ledger.specs.Births.{AreBirths, FindsBirths, FindsRenewal, makes_pairs}
 use Rattle.ws_ledger.specs.Committing.{AllGoOn as LedgerAllGoOn, are_quiet}
@@ -36,7 +36,9 @@ use Rattle.ws_core.specs.Rows.{Rows}
 use Rattle.ws_core.specs.Past.{IsPast}
 use Rattle.ws_core.specs.Stands.{StandsFor}
 use Rattle.ws_core.proofs.Holding.{BearsOn, HoldsOn}
-use Rattle.ws_core.proofs.Log.{log_other, log_pushed, log_quiet, quiet_other, renewals_after, renewals_pushed, renewals_quiet}
+use Rattle.ws_kept.proofs.Fewer.{renewed_at}
+use Rattle.ws_core.proofs.Fewer.{logged_later}
+use Rattle.ws_core.proofs.Log.{logged_other, logged_pushed, logged_quiet, quiet_other, renewed_after, renewed_pushed, renewed_quiet}
 use Rattle.ws_core.proofs.Rooms.{only_after, pushed_tries, rooms_after, stays_absent, stays_there, tries_after}
 
 -- ---- a push
@@ -48,8 +50,8 @@ pushed_goes e v n how old new kind goes same_log same_renewals adds h since s l 
     let born : AreBirths e h [] = nothing_born e h l (ap makes_pairs kind) in
     record {
       ledger = goes h since s.ledger l le;
-      log = same_log ∙ s.log ∙ sym (log_pushed e h (ap is_any_push kind));
-      renewals = same_renewals ∙ s.renewals ∙ ap reverse (sym (renewals_pushed e h v n how kind));
+      log = subst (IsLogged (e ∷ h) e.t) (sym same_log) (logged_pushed e h since old.log l le s.log (ap is_any_push kind));
+      renewals = subst (AreRenewed (e ∷ h) e.t) (sym same_renewals) (renewed_pushed e h since old.renewals l le s.renewals v n how kind);
       tries = pushed_tries e h v n how old.tries new.tries kind adds s.tries;
       only = only_after e h [] old.tries new.tries born (λ w m _ k. stays_absent v n (record { serial = e.serial; t = e.t; how = how }) old.tries new.tries adds w m k) s.only;
       rooms =
@@ -81,8 +83,8 @@ other_goes e births found old new other goes finds renews log renewed look h sin
     let born = finds h since s.ledger l le in
     record {
       ledger = goes h since s.ledger l le;
-      log = log ∙ ap (λ es. es ++ light_event e ∷ []) s.log ∙ sym (log_other e h other);
-      renewals = renewed ∙ ap (λ rs. rs ++ listed found) s.renewals ∙ sym (renewals_after e h found (renews h since s.ledger l le));
+      log = subst (IsLogged (e ∷ h) e.t) (sym log) (logged_other e h since old.log l le s.log other);
+      renewals = subst (AreRenewed (e ∷ h) e.t) (sym renewed) (renewed_after e h since old.renewals l le s.renewals found (renews h since s.ledger l le));
       tries = tries_after e h births old.tries new.tries l.0 other born look s.tries;
       only = only_after e h births old.tries new.tries born (λ v n q k. look v n ∙ ap (λ b. cond b (Some []) (tries_at v n old.tries)) q ∙ k) s.only;
       rooms =
@@ -123,7 +125,7 @@ quiet_pairs (Revoked n reason) q = refl
 
 -- what stands beside the ledger, but the log
 record Beside (h : List Event) (since : ℕ) (rows : Rows) : Type 0 where
-  renewed : rows.renewals ≡ reverse (renewals h)
+  renewed : AreRenewed h since rows.renewals
   tries : TriesStand h rows.tries
   only : (v n : ℕ) → pair_of h v n ≡ None → tries_at v n rows.tries ≡ None
   rooms : HaveRooms h since rows.tries
@@ -132,7 +134,7 @@ beside_quiet : (e : Event) (h : List Event) (since : ℕ) (rows : Rows) → Lega
 beside_quiet e h since rows l le q b =
     let born : AreBirths e h [] = nothing_born e h l (quiet_pairs e.what q) in
     record {
-      renewed = b.renewed ∙ ap reverse (sym (renewals_quiet e h q));
+      renewed = renewed_quiet e h since rows.renewals l le q b.renewed;
       tries = tries_after e h [] rows.tries rows.tries l.0 (quiet_other e.what q) born (λ v n. refl) b.tries;
       only = only_after e h [] rows.tries rows.tries born (λ v n _ k. k) b.only;
       rooms = rooms_after e h since [] rows.tries rows.tries l le born (λ v n k. k) (λ v n k. absurd (false≢true k)) b.rooms;
@@ -141,18 +143,20 @@ beside_quiet e h since rows l le q b =
 -- all of them, of which the log has not yet the events
 beside_all : (t : ℕ) (whats : List What) (h : List Event) (since : ℕ) (rows : Rows) → Legal (committed t whats h) → since ≤ t → are_quiet whats ≡ true → Beside h since rows → Beside (committed t whats h) t rows
 beside_all t [] h since rows l le q b =
-    record { renewed = b.renewed; tries = b.tries; only = b.only; rooms = λ v n kv kn k. b.rooms v n (drops_version_later h since t v le kv) (drops_lease_later h since t n l le kn) k }
+    record { renewed = renewed_at h since t rows.renewals l le b.renewed; tries = b.tries; only = b.only; rooms = λ v n kv kn k. b.rooms v n (drops_version_later h since t v le kv) (drops_lease_later h since t n l le kn) k }
 beside_all t (w ∷ ws) h since rows l le q b =
     let e : Event = record { serial = suc (serial h); t = t; what = w } in
     let parts = and_parts (is_quiet w) (list_all is_quiet ws) q in
     beside_all t ws (e ∷ h) t rows l (omega arith) parts.1 (beside_quiet e h since rows (legal_past t ws (e ∷ h) l) le parts.0 b)
 
-log_all : (t : ℕ) (whats : List What) (h : List Event) → are_quiet whats ≡ true → log_of (committed t whats h) ≡ log_of h ++ numbered t whats h
-log_all t [] h q = sym (append-nil (log_of h))
-log_all t (w ∷ ws) h q =
+logged_all : (t : ℕ) (whats : List What) (h : List Event) (since : ℕ) (log : List Event) → Legal (committed t whats h) → since ≤ t → are_quiet whats ≡ true → IsLogged h since log
+    → IsLogged (committed t whats h) t (log ++ numbered t whats h)
+logged_all t [] h since log l le q logged = subst (IsLogged h t) (sym (append-nil log)) (logged_later h since t log l le logged)
+logged_all t (w ∷ ws) h since log l le q logged =
     let e : Event = record { serial = suc (serial h); t = t; what = w } in
     let parts = and_parts (is_quiet w) (list_all is_quiet ws) q in
-    log_all t ws (e ∷ h) parts.1 ∙ ap (λ es. es ++ numbered t ws (e ∷ h)) (log_quiet e h parts.0) ∙ append_assoc (log_of h) (e ∷ []) (numbered t ws (e ∷ h))
+    subst (IsLogged (committed t ws (e ∷ h)) t) (append_assoc log (e ∷ []) (numbered t ws (e ∷ h)))
+    (logged_all t ws (e ∷ h) t (log ++ e ∷ []) l (omega arith) parts.1 (logged_quiet e h since log (legal_past t ws (e ∷ h) l) le parts.0 logged))
 
 -- no version is past afterwards that wasn't
 same_latest : (v : ℕ) (e : Event) (h : List Event) → is_quiet e.what ≡ true → is_latest (e ∷ h) v ≡ is_latest h v
@@ -195,8 +199,8 @@ all_go_on t whats events old new quiet goes are log same_renewals same_tries h s
     let after = goes h since s.ledger l le in
     record {
       ledger = after;
-      log = log ∙ (λ j. s.log j ++ are h since s j) ∙ sym (log_all t whats h quiet);
-      renewals = same_renewals ∙ b.renewed;
+      log = subst (IsLogged (committed t whats h) t) (sym (log ∙ ap (λ es. old.log ++ es) (are h since s))) (logged_all t whats h since old.log l le quiet s.log);
+      renewals = subst (AreRenewed (committed t whats h) t) (sym same_renewals) b.renewed;
       tries = subst (TriesStand (committed t whats h)) (sym same_tries) b.tries;
       only = subst (λ (rows : TryRows). (v n : ℕ) → pair_of (committed t whats h) v n ≡ None → tries_at v n rows ≡ None) (sym same_tries) b.only;
       rooms = subst (HaveRooms (committed t whats h) t) (sym same_tries) b.rooms;

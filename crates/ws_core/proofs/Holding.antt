@@ -1,12 +1,12 @@
 -- The core between two changes of an event: all of it stands, but rooms of past versions may be there.
 use Rattle.std.proofs.Common.{◌≡◌, ℕ, ◌≤◌, List, ◌∷◌}
-use Rattle.std.specs.Prelude.{is_some, reverse, None, true, false}
+use Rattle.std.specs.Prelude.{is_some, None, true, false}
 use Rattle.ws_model.specs.declared.event.Event.{Event}
 use Rattle.ws_model.specs.Legal.{Legal}
 use Rattle.ws_model.specs.Verdict.{pair_of}
 use Rattle.ws_tries.specs.Rows.{Rows as TryRows, is_listed, tries_at}
 use Rattle.ws_tries.specs.Stands.{HaveRooms, StandsFor as TriesStand}
-use Rattle.ws_kept.specs.Stands.{log_of, renewals}
+use Rattle.ws_kept.specs.Stands.{AreRenewed, IsLogged}
 use Rattle.ws_ledger.specs.Births.{AreBirths}
 use Rattle.ws_ledger.specs.Stands.{StandsFor as LedgerStands}
 use Rattle.ws_core.specs.Past.{IsPast}
@@ -15,8 +15,8 @@ use Rattle.ws_core.specs.Stands.{StandsFor}
 
 pub record Holds (h : List Event) (since : ℕ) (rows : Rows) : Type 0 where
   pub ledger : LedgerStands h since rows.ledger
-  pub log : rows.log ≡ log_of h
-  pub renewals : rows.renewals ≡ reverse (renewals h)
+  pub log : IsLogged h since rows.log
+  pub renewals : AreRenewed h since rows.renewals
   pub tries : TriesStand h rows.tries
   pub only : (v n : ℕ) → pair_of h v n ≡ None → tries_at v n rows.tries ≡ None
   pub rooms : HaveRooms h since rows.tries

@@ -2,6 +2,7 @@ pub mod Renewed
 pub mod Rows
 pub mod Past
 pub mod Stands
+pub mod Sweeping
 pub mod Follows
 pub mod Committing
 pub mod GivenBack

@@ -1,12 +1,12 @@
 // What happened, applied to the core.
 ghost use Rattle.std.specs.Prelude.{◌≡◌, ◌<◌, ◌++◌, OnOk, OnErr, false};
-ghost use Rattle.std.specs.Vec.{vec_capacity, vec_len};
 ghost use Rattle.ws_model.specs.declared.event.What.TheVariants.{Pushed};
 ghost use Rattle.ws_tries.specs.Stands.{is_any_push};
 ghost use Rattle.ws_core.specs.Follows.{HasHistory};
 ghost use Rattle.ws_core.specs.GivenBack.{RoomsAreGone};
 ghost use Rattle.ws_core.specs.Passing.{HoldsNoExpired};
 ghost use Rattle.ws_core.specs.Renewed.{listed};
+ghost use Rattle.ws_sweep.specs.Rows.{members};
 ghost use Rattle.ws_core.specs.Stands.{CanFollow, GoesOn};
 
 use crate::Core;
@@ -15,6 +15,7 @@ use crate::giving_back::{give_back, give_back_pairs, touched_by, touched_by_push
 use crate::passing::let_go;
 use ws_copies::light_copy;
 use ws_model::{Event, How, NoMemory, What};
+use ws_sweep::Sweep;
 use ws_tries::Try;
 
 impl Core {
@@ -88,14 +89,15 @@ impl Core {
         give_back(&self.ledger, &mut self.tries, touched);
         give_back_pairs(&self.ledger, &mut self.tries, touched, event.t);
         let_go(&mut self.ledger, &mut self.tries, event.t);
+        self.sweep(event.t, 1);
         Ok(())
     }
 }
 
 /// Adds a renewal behind the others, where there is one. It takes no memory.
-fn add_reserved(renewals: &mut Vec<(u64, u64)>, renewal: Option<(u64, u64)>)
-    requires { vec_len renewals.old < vec_capacity renewals.old }
-    ensures { renewals.new.items ≡ renewals.old.items ++ listed renewal }
+fn add_reserved(renewals: &mut Sweep<(u64, u64)>, renewal: Option<(u64, u64)>)
+    requires { 0 < renewals.old.room }
+    ensures { members renewals.new ≡ members renewals.old ++ listed renewal }
 {
     if let Some(renewal) = renewal {
         renewals.push_reserved(renewal);

@@ -1,10 +1,13 @@
 // What one request makes, applied to the core together or not at all.
-ghost use Rattle.std.specs.Prelude.{◌≡◌, OnOk, OnErr, true};
+ghost use Rattle.std.specs.Prelude.{◌≡◌, ◌≤◌, ◌++◌, OnOk, OnErr, true};
+ghost use Rattle.std.specs.Vec.{vec_len};
 ghost use Rattle.ws_core_tables.specs.Committing.{GoTogether};
 ghost use Rattle.ws_core.specs.Committing.{AllGoOn, CanHappen, are_quiet};
+ghost use Rattle.ws_sweep.specs.Rows.{members};
 
 use crate::Core;
-use ws_model::{NoMemory, What};
+use ws_model::{Event, NoMemory, What};
+use ws_sweep::Sweep;
 
 impl Core {
     /// Applies what happens at `t`, in seconds, in its order, each under the next serial: all of it, or
@@ -17,11 +20,21 @@ impl Core {
         ensures ok { OnOk result (AllGoOn t whats.items self.old self.new) }
         ensures err { OnErr result (self.new ≡ self.old) }
     {
-        self.log.reserve(whats.len())?;
-        let mut events = self.ledger.commit(t, whats)?;
-        match self.log.append(&mut events) {
-            Ok(()) => Ok(()),
-            Err(_) => unreachable!(),
-        }
+        let added = whats.len();
+        self.log.reserve(added)?;
+        let events = self.ledger.commit(t, whats)?;
+        add_all_reserved(&mut self.log, events);
+        self.sweep(t, added);
+        Ok(())
+    }
+}
+
+/// Adds events behind the others. It takes no memory.
+fn add_all_reserved(log: &mut Sweep<Event>, events: Vec<Event>)
+    requires { vec_len events ≤ log.old.room }
+    ensures { members log.new ≡ members log.old ++ events.items }
+{
+    for event in events {
+        log.push_reserved(event);
     }
 }

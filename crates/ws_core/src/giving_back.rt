@@ -119,7 +119,7 @@ fn give_back_version(ledger: &Ledger, tries: &mut Tries, ver: u64)
 
 /// Whether no compaction would keep a version: no pair of it stands open, and it isn't the latest of its
 /// topic.
-fn is_past(ledger: &Ledger, ver: u64) -> bool
+pub(crate) fn is_past(ledger: &Ledger, ver: u64) -> bool
     ensures past { result ≡ true → (h : List Event) (since : ℕ) → LedgerStands h since ledger.now → Legal h → IsPast h ledger.now.fates ver }
     ensures kept { result ≡ false → (h : List Event) (since : ℕ) → LedgerStands h since ledger.now → Legal h → IsPast h ledger.now.fates ver → ⊥ }
     ensures low { result ≡ true → ver < 2 ^ 63 }
@@ -174,7 +174,7 @@ fn give_back_lease(ledger: &Ledger, tries: &mut Tries, lease: u64, t: u64)
 }
 
 /// Whether a lease is over, and none of its pairs that have rooms went over to a lease that replaced it.
-fn is_without_heirs(ledger: &Ledger, tries: &Tries, lease: u64, t: u64) -> bool
+pub(crate) fn is_without_heirs(ledger: &Ledger, tries: &Tries, lease: u64, t: u64) -> bool
     ensures over { result ≡ true → (h : List Event) (since : ℕ) → LedgerStands h since ledger.now → Legal h → since ≤ t → is_over h t lease ≡ true }
     ensures none { result ≡ true → HasHeir tries.now ledger.now.fates lease → ⊥ }
     ensures heir { result ≡ false → (h : List Event) (since : ℕ) → LedgerStands h since ledger.now → Legal h → since ≤ t → is_over h t lease ≡ true → HasHeir tries.now ledger.now.fates lease }

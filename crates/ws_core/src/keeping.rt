@@ -16,19 +16,29 @@ use ws_tried::kept_pushes;
 impl Core {
     /// What a compaction at `t`, in seconds, keeps, in its order, oldest first: a Tally of its moment, of
     /// the greatest numbers and of the pairs that are forgotten, and then the events that are kept. It goes
-    /// over all that happened but pushes, over all pairs, and over the rooms of pushes.
+    /// over all that happened but pushes, and over the rooms of pushes.
     pub fn keep(&self, t: u64) -> Result<Vec<Event>, NoMemory>
         requires in_time { t < 2 ^ 48 }
         ensures stands { (h : List Event) (since : ℕ) → StandsFor h since self.now → Legal h → since ≤ t → IfOk result (λ events. events.items ≡ reverse (keep h t)) }
     {
         let tables = self.ledger.tables();
         let fates = self.ledger.fates();
-        let kept = Kept::of(self.alloc, tables, fates, &self.log, &self.renewals, t)?;
+        let account = self.ledger.counts(t);
+        let tries = &self.tries;
+        let kept = Kept::of(
+            self.alloc,
+            tables,
+            fates,
+            tries,
+            &self.log,
+            &self.renewals,
+            t,
+        )?;
         let mut events = kept_events(self.alloc, tables, &kept, &self.log)?;
-        let mut pushes = kept_pushes(self.alloc, &self.tries, &kept)?;
+        let mut pushes = kept_pushes(self.alloc, tries, &kept)?;
         events.append(&mut pushes)?;
         let mut list = Vec::new(self.alloc);
-        list.push(tally(tables, fates, &kept, &self.log, t))?;
+        list.push(tally(tables, fates, tries, &kept, &account, &self.log, t))?;
         list.append(&mut in_order(events))?;
         Ok(list)
     }

@@ -13,6 +13,7 @@ mod keeping;
 mod looking;
 mod passing;
 mod settling;
+mod sweeping;
 #[cfg(test)]
 mod tests;
 mod whole;

@@ -7,6 +7,7 @@ use std::alloc::Global;
 use std::marker::Model;
 use ws_ledger::Ledger;
 use ws_model::Event;
+use ws_sweep::Sweep;
 use ws_tries::Tries;
 
 /// The hub's core: the ledger, and what a compaction needs beside it. Contracts see it as the record of
@@ -15,20 +16,22 @@ use ws_tries::Tries;
 pub struct Core {
     pub(crate) alloc: Global,
     pub(crate) ledger: Ledger,
-    /// What happened but pushes, the oldest first. A version is there by its number alone: its texts and
-    /// its body stand in the ledger's tables, as long as it is kept.
-    pub(crate) log: Vec<Event>,
-    /// Each new lease with the lease that it replaced, the oldest first.
-    pub(crate) renewals: Vec<(u64, u64)>,
+    /// What happened but pushes, the oldest first, without what was found that no compaction would keep. A
+    /// version is there by its number alone: its texts and its body stand in the ledger's tables, as long as
+    /// it is kept.
+    pub(crate) log: Sweep<Event>,
+    /// Each new lease with the lease that it replaced, the oldest first, in the same way.
+    pub(crate) renewals: Sweep<(u64, u64)>,
     pub(crate) tries: Tries,
 }
 
 impl Model for Core {
     ghost use Rattle.ws_core.specs.Rows.{Rows};
+    ghost use Rattle.ws_sweep.specs.Rows.{members};
 
     ghost Value = { Rows };
 
-    ghost view = { λ s. record { ledger = s.ledger; log = s.log.items; renewals = s.renewals.items; tries = s.tries } };
+    ghost view = { λ s. record { ledger = s.ledger; log = members s.log; renewals = members s.renewals; tries = s.tries } };
 }
 
 impl Core {
@@ -40,8 +43,8 @@ impl Core {
         Core {
             alloc,
             ledger: Ledger::empty(alloc),
-            log: Vec::new(alloc),
-            renewals: Vec::new(alloc),
+            log: Sweep::empty(alloc),
+            renewals: Sweep::empty(alloc),
             tries: Tries::empty(alloc),
         }
     }

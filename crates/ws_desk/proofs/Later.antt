@@ -4,6 +4,8 @@ use Rattle.ws_model.specs.declared.event.Event.{Event}
 use Rattle.ws_model.specs.Legal.{Legal}
 use Rattle.ws_ledger.specs.Rows.{Rows as LedgerRows}
 use Rattle.ws_ledger.specs.Stands.{StandsFor as LedgerStands}
+use Rattle.ws_kept.proofs.Fewer.{renewed_at}
+use Rattle.ws_core.proofs.Fewer.{logged_later}
 use Rattle.ws_core.proofs.AllKept.{rooms_later}
 use Rattle.ws_core.specs.Rows.{Rows}
 use Rattle.ws_core.specs.Stands.{StandsFor}
@@ -42,8 +44,8 @@ pub stands_later : (h : List Event) (since t : ℕ) (rows : Rows) → StandsFor 
 stands_later h since t rows s l le =
     record {
       ledger = ledger_later h since t rows.ledger s.ledger le;
-      log = s.log;
-      renewals = s.renewals;
+      log = logged_later h since t rows.log l le s.log;
+      renewals = renewed_at h since t rows.renewals l le s.renewals;
       tries = s.tries;
       only = s.only;
       rooms = rooms_later h since t rows.tries l le s.rooms;

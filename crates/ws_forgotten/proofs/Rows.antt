@@ -21,7 +21,7 @@ Entry = (ℕ × ℕ) × Standing
 abbrev pub same_key : ℕ × ℕ → ℕ × ℕ → Bool
 same_key = eq_by_cmp pair_order
 
-total_order : IsTotalOrder pair_order
+pub total_order : IsTotalOrder pair_order
 total_order = then_total (on_total (λ (k : ℕ × ℕ). k.0) nat_cmp_total) (on_total (λ (k : ℕ × ℕ). k.1) nat_cmp_total)
 
 pub key_test : (n v m w : ℕ) → same_key (n, v) (m, w) ≡ is_here v n w m
@@ -30,7 +30,7 @@ key_test n v m w = grind (arith, nat_tests)
 here_is : (v n w m : ℕ) → is_here v n w m ≡ true → (n ≡ m) × (v ≡ w)
 here_is v n w m k = (grind (arith, nat_tests), grind (arith, nat_tests))
 
-same_is : (k m : ℕ × ℕ) → same_key k m ≡ true → k ≡ m
+pub same_is : (k m : ℕ × ℕ) → same_key k m ≡ true → k ≡ m
 same_is k m e = let p = here_is k.1 k.0 m.1 m.0 (sym (key_test k.0 k.1 m.0 m.1) ∙ e) in (λ j. (p.0 j, p.1 j))
 
 abbrev passes : (Standing → Bool) → Option Standing → Bool

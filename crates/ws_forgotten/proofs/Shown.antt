@@ -1,6 +1,6 @@
 -- The pairs of a history that a compaction forgets, counted in the table that shows them.
-use Rattle.std.proofs.Common.{◌≡◌, ℕ, ◌≤◌, Bool, true, false, cond, not, ◌&&◌, List, [], ◌∷◌, refl, ap, sym, ◌∙◌, length, Some, arith}
-use Rattle.std.specs.Prelude.{find, filter, map, ◌==◌}
+use Rattle.std.proofs.Common.{◌≡◌, ℕ, ◌≤◌, Bool, true, false, cond, not, ◌&&◌, List, [], ◌∷◌, refl, ap, sym, ◌∙◌, subst, length, Option, Some, None, arith}
+use Rattle.std.specs.Prelude.{find, filter, map, unwrap_or, ◌==◌}
 use Rattle.std.specs.List.{AllByRecursion, IsDistinct, list_any}
 use Rattle.std.specs.List.Sorted.{IsStrictlySortedBy}
 use Rattle.std.specs.Map.{keys_of, lookup}
@@ -19,22 +19,23 @@ use Rattle.ws_model.specs.Fate.{Pair, fate, is_owed}
 use Rattle.ws_model.specs.Keep.{is_kept_pair}
 use Rattle.ws_model.specs.Legal.{Legal}
 use Rattle.ws_model.specs.Pairs.{owed, pairs}
-use Rattle.ws_model.specs.Verdict.{is_kept_version}
+use Rattle.ws_model.specs.Verdict.{fate_of, is_kept_version, pair_of}
 use Rattle.ws_model.specs.Versions.{latest}
 use Rattle.ws_laws.proofs.Known.{itself}
-use Rattle.ws_laws.proofs.ListLaws.{all_filter_with, all_weaker, filter-map, filter_same}
+use Rattle.ws_laws.proofs.ListLaws.{all_filter_with, all_weaker, filter-map, filter_same, map-map}
 use Rattle.ws_laws.proofs.Paired.{AreUnlike, pairs_apart, same_numbers}
 use Rattle.ws_compaction.proofs.Choice.{owed_numbers}
 use Rattle.ws_compaction.proofs.Fetches.{found_in}
 use Rattle.ws_fate.specs.declared.totals.Standing.{Standing}
-use Rattle.ws_fate.specs.declared.totals.Standing.TheVariants.{Answered, Ended}
+use Rattle.ws_fate.specs.declared.totals.Standing.TheVariants.{Open, Answered, Ended}
 use Rattle.ws_fate.specs.Rows.{Rows, is_here, pair_order}
-use Rattle.ws_fate.specs.Stands.{AreShown, without_expiry}
+use Rattle.ws_fate.specs.Stands.{AreShown, is_owed_at, later, without_expiry}
 use Rattle.ws_fate.specs.Totals.{standing}
-use Rattle.ws_fate.proofs.Passing.{is_it}
+use Rattle.ws_fate.proofs.Passing.{any_found, is_it}
 use Rattle.ws_kept.specs.Rows.{Rows as KeptRows}
 use Rattle.ws_kept.specs.Stands.{AreKept}
-use Rattle.ws_forgotten.specs.Forgotten.{end_of, is_forgotten, is_kept_key, is_so, number_forgotten}
+use Rattle.ws_forgotten.specs.Forgotten.{end_of, forgotten_ends, is_kept_key, is_so, number_so, standing_of}
+use Rattle.ws_forgotten.proofs.OneByOne.{number_picked}
 use Rattle.ws_forgotten.proofs.Rows.{Entry, key_test, same_key, same_number}
 
 -- ---- the pairs of a history as such a table
@@ -45,20 +46,21 @@ key_of p = (p.lease.intent.n, p.version.ver)
 abbrev entry_of : List Event → ℕ → Pair → Entry
 entry_of h t p = (key_of p, without_expiry (standing (fate h p t)))
 
-apart_keys : (v n w m : ℕ) → ((v == w) && (n == m)) ≡ false → same_key (n, v) (m, w) ≡ false
-apart_keys v n w m k = key_test n v m w ∙ turned v n w m k
+apart_keys : (p q : Pair) → same_numbers p q ≡ false → same_key (key_of p) (key_of q) ≡ false
+apart_keys p q k = key_test p.lease.intent.n p.version.ver q.lease.intent.n q.version.ver ∙ turned p.version.ver p.lease.intent.n q.version.ver q.lease.intent.n k
   where
     turned : (v n w m : ℕ) → ((v == w) && (n == m)) ≡ false → is_here v n w m ≡ false
     turned v n w m k = grind (arith, nat_tests)
 
-keys_apart : (h : List Event) (t : ℕ) (ps : List Pair) → AreUnlike same_numbers ps → IsDistinct same_key (keys_of (map (entry_of h t) ps))
-unfolding IsDistinct
-keys_apart h t [] a = tt
-keys_apart h t (p ∷ ps) a = (others ps a.0, keys_apart h t ps a.1)
-  where
-    others : (qs : List Pair) → AllByRecursion (λ q. same_numbers p q ≡ false) qs → AllByRecursion (λ k. same_key (key_of p) k ≡ false) (keys_of (map (entry_of h t) qs))
-    others [] b = tt
-    others (q ∷ qs) b = (apart_keys p.version.ver p.lease.intent.n q.version.ver q.lease.intent.n b.0, others qs b.1)
+module _ (key : Pair → ℕ × ℕ) (apart : (p q : Pair) → same_numbers p q ≡ false → same_key (key p) (key q) ≡ false) where
+  pub keys_apart : (ps : List Pair) → AreUnlike same_numbers ps → IsDistinct same_key (map key ps)
+  unfolding IsDistinct
+  keys_apart [] a = tt
+  keys_apart (p ∷ ps) a = (others ps a.0, keys_apart ps a.1)
+    where
+      others : (qs : List Pair) → AllByRecursion (λ q. same_numbers p q ≡ false) qs → AllByRecursion (λ k. same_key (key p) k ≡ false) (map key qs)
+      others [] b = tt
+      others (q ∷ qs) b = (apart p q b.0, others qs b.1)
 
 at_pair : (n v m w : ℕ) → same_key (n, v) (m, w) ≡ ((w == v) && (m == n))
 at_pair n v m w = key_test n v m w ∙ turned n v m w
@@ -98,29 +100,55 @@ owed_kept h t l = unfiltered (λ p. is_kept_pair h t p ≡ true) (λ p. is_owed 
 
 -- ---- what became of a pair, and its fate
 
--- the fates that pass the test are those that end so, of pairs that aren't owed
+-- the fates that pass the test are those that end so
 abbrev pub IsTestOf : (Fate → Bool) → Standing → Type 0
-IsTestOf test how = (f : Fate) → is_owed f ≡ false → is_so how (end_of (without_expiry (standing f))) ≡ test f
+IsTestOf test how = (f : Fate) → is_so how (standing f) ≡ test f
 
 pub tests_answered : IsTestOf is_answered Answered
-tests_answered IsAnswered k = refl
-tests_answered (Owed m n) k = absurd (false≢true (sym k))
-tests_answered (HasEnded Expired) k = refl
-tests_answered (HasEnded Unsubscribed) k = refl
-tests_answered (HasEnded Replaced) k = refl
-tests_answered (HasEnded Gone) k = refl
-tests_answered (HasEnded Spent) k = refl
-tests_answered (HasEnded Revoked) k = refl
+tests_answered IsAnswered = refl
+tests_answered (Owed m n) = refl
+tests_answered (HasEnded c) = refl
 
 pub tests_ended : (c : Cause) → IsTestOf (is_ended c) (Ended c)
-tests_ended c IsAnswered k = refl
-tests_ended c (Owed m n) k = absurd (false≢true (sym k))
-tests_ended c (HasEnded Expired) k = refl
-tests_ended c (HasEnded Unsubscribed) k = refl
-tests_ended c (HasEnded Replaced) k = refl
-tests_ended c (HasEnded Gone) k = refl
-tests_ended c (HasEnded Spent) k = refl
-tests_ended c (HasEnded Revoked) k = refl
+tests_ended c IsAnswered = refl
+tests_ended c (Owed m n) = refl
+tests_ended c (HasEnded d) = refl
+
+-- what isn't owed and is said to be open has expired
+ended_so : (f : Fate) → is_owed f ≡ false → end_of (without_expiry (standing f)) ≡ standing f
+ended_so IsAnswered k = refl
+ended_so (Owed m n) k = absurd (false≢true (sym k))
+ended_so (HasEnded Expired) k = refl
+ended_so (HasEnded Unsubscribed) k = refl
+ended_so (HasEnded Replaced) k = refl
+ended_so (HasEnded Gone) k = refl
+ended_so (HasEnded Spent) k = refl
+ended_so (HasEnded Revoked) k = refl
+
+later_so : (f : Fate) → later (is_owed f) (without_expiry (standing f)) ≡ standing f
+later_so IsAnswered = refl
+later_so (Owed m n) = refl
+later_so (HasEnded Expired) = refl
+later_so (HasEnded Unsubscribed) = refl
+later_so (HasEnded Replaced) = refl
+later_so (HasEnded Gone) = refl
+later_so (HasEnded Spent) = refl
+later_so (HasEnded Revoked) = refl
+
+-- what became of a pair of which the table says s
+pub shown_later : (h : List Event) (t v n : ℕ) (s : Standing) → Legal h → Some s ≡ option_map without_expiry (option_map standing (fate_of h v n t)) → later (is_owed_at h t v n) s ≡ standing_of h t v n
+shown_later h t v n s l shown = by (pair_of h v n) refl shown
+  where
+    by : (o : Option Pair) → pair_of h v n ≡ o → Some s ≡ option_map without_expiry (option_map standing (option_map (λ p. fate h p t) o))
+        → later (is_owed_at h t v n) s ≡ unwrap_or (option_map standing (option_map (λ p. fate h p t) o)) Open
+    by None e k = absurd (cc)
+    by (Some p) e k =
+        let same : s ≡ without_expiry (standing (fate h p t)) = cc in
+        (λ j. later (any_found v n (λ q. is_owed (fate h q t)) p (pairs h) (pairs_apart h l) e j) (same j)) ∙ later_so (fate h p t)
+
+-- the pair isn't kept, and so it ended
+abbrev is_forgotten : Standing → KeptRows → Entry → Bool
+is_forgotten how kept e = is_so how (end_of e.1) && not (is_kept_key kept e.0)
 
 module _ (h : List Event) (t : ℕ) (kept : KeptRows) (keeps : AreKept h t kept) (test : Fate → Bool) (how : Standing) (same : IsTestOf test how) where
   kept_both : (p : Pair) → is_kept_key kept (key_of p) ≡ is_kept_pair h t p
@@ -137,13 +165,15 @@ module _ (h : List Event) (t : ℕ) (kept : KeptRows) (keeps : AreKept h t kept)
 
       by : (b : Bool) → is_owed (fate h p t) ≡ b → (is_so how (end_of (without_expiry (standing (fate h p t)))) && not (is_kept_pair h t p)) ≡ (test (fate h p t) && not (is_kept_pair h t p))
       by true e = not_kept (is_so how (end_of (without_expiry (standing (fate h p t))))) (test (fate h p t)) (is_kept_pair h t p) (k e)
-      by false e = ap (λ b. b && not (is_kept_pair h t p)) (same (fate h p t) e)
+      by false e = ap (λ b. b && not (is_kept_pair h t p)) (ap (is_so how) (ended_so (fate h p t) e) ∙ same (fate h p t))
 
   pub number_is :
       (since : ℕ) (rows : Rows) → AreShown h since rows → IsStrictlySortedBy pair_order (keys_of rows.pairs) → Legal h → since ≤ t
-      → number_forgotten how kept rows.pairs ≡ length (filter (λ p. test (fate h p t) && not (is_kept_pair h t p)) (pairs h))
+      → number_so how (forgotten_ends kept rows.pairs) ≡ length (filter (λ p. test (fate h p t) && not (is_kept_pair h t p)) (pairs h))
   number_is since rows shown sorted l le =
-      same_number (is_forgotten how kept) rows.pairs (map (entry_of h t) (pairs h)) (IsDistinct-from_sorted pair_order (keys_of rows.pairs) sorted) (keys_apart h t (pairs h) (pairs_apart h l))
+      number_picked (λ e. not (is_kept_key kept e.0)) (λ e. end_of e.1) how rows.pairs
+      ∙ same_number (is_forgotten how kept) rows.pairs (map (entry_of h t) (pairs h)) (IsDistinct-from_sorted pair_order (keys_of rows.pairs) sorted)
+      (subst (IsDistinct same_key) (sym (map-map (entry_of h t) (λ e. e.0) (pairs h))) (keys_apart key_of apart_keys (pairs h) (pairs_apart h l)))
       (λ k. shown t k.1 k.0 le ∙ sym (looked_up h t k.1 k.0 (pairs h)))
       ∙ ap length (filter-map (entry_of h t) (is_forgotten how kept) (pairs h))
       ∙ length-map (filter (λ p. is_forgotten how kept (entry_of h t p)) (pairs h)) (entry_of h t)

@@ -4,7 +4,7 @@ ghost use Rattle.std.specs.List.Sorted.{IsStrictlySortedBy};
 ghost use Rattle.std.specs.Map.{keys_of};
 ghost use Rattle.ws_fate.specs.Rows.{pair_order};
 ghost use Rattle.ws_fate.specs.Totals.{none};
-ghost use Rattle.ws_forgotten.specs.Forgotten.{end_of, sums, with_forgotten};
+ghost use Rattle.ws_forgotten.specs.Forgotten.{end_of, forgotten_ends, sums, with_ends};
 
 use ws_fate::{Fates, Standing, Totals};
 use ws_kept::Kept;
@@ -12,7 +12,7 @@ use ws_model::Cause;
 
 /// How many pairs aren't kept, by what became of them. It takes no memory.
 pub(crate) fn newly_forgotten(fates: &Fates, kept: &Kept) -> Totals
-    ensures counted { result ≡ with_forgotten none kept.now fates.now.pairs }
+    ensures counted { result ≡ with_ends none (forgotten_ends kept.now fates.now.pairs) }
     ensures ordered { IsStrictlySortedBy pair_order (keys_of fates.now.pairs) }
 {
     let mut totals = Totals::none();

@@ -1,7 +1,12 @@
+pub mod Fewer
 mod First
+pub mod GoneOver
 mod Latest
 mod Lists
+pub mod Needed
 mod Once
 pub mod Owed
+pub mod Part
 mod Renewed
+mod Rooms
 mod WentOver

@@ -1,5 +1,5 @@
 -- Tests over lists, sets of numbers, and the log of a history.
-use Rattle.std.proofs.Common.{◌≡◌, ℕ, ◌+◌, ◌≤◌, ◌<◌, Bool, true, false, not, ◌&&◌, ◌||◌, List, [], ◌∷◌, refl, ap, sym, ◌∙◌, arith, drop, length, get_or}
+use Rattle.std.proofs.Common.{◌≡◌, ℕ, ◌+◌, ◌≤◌, ◌<◌, Bool, true, false, not, ◌&&◌, ◌||◌, List, [], ◌∷◌, ◌++◌, refl, ap, sym, ◌∙◌, arith, drop, length, get_or}
 use Rattle.std.specs.Prelude.{filter, reverse, ◌==◌}
 use Rattle.std.specs.List.{AllByRecursion, list_any}
 use Rattle.std.specs.BTreeMap.{is_at}
@@ -61,6 +61,11 @@ one_done new old one rest all a b = by old one rest all (ap (λ x. x || rest) a)
 pub all_done : (b c : Bool) → (b || false) ≡ c → b ≡ c
 all_done true c k = k
 all_done false c k = k
+
+-- over two lists
+pub in_two : {X : Type 0} (q : X → Bool) (b : Bool) (xs ys : List X) → ((b || list_any q xs) || list_any q ys) ≡ (b || list_any q (xs ++ ys))
+in_two q true xs ys = refl
+in_two q false xs ys = sym (list_any-append q xs ys)
 
 -- over a slice
 pub next_done : {X : Type 0} (q : X → Bool) (xs : List X) (i : ℕ) (x : X) (new old all : Bool) → i < length xs → x ≡ get_or xs i x → new ≡ (old || q x) → (old || list_any q (drop i xs)) ≡ all → (new || list_any q (drop (i + 1) xs)) ≡ all

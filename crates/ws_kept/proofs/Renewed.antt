@@ -125,7 +125,7 @@ module _ (g : List Event) (t : ℕ) (x : Lease) (l : Legal g) (le : last_time g 
 -- ---- one pass
 
 -- what is added behind what is there
-old_append : (goes : ℕ → Bool) (kept : List ℕ) (rs ss : List (ℕ × ℕ)) → with_old_ones goes kept (rs ++ ss) ≡ with_old_ones goes (with_old_ones goes kept ss) rs
+pub old_append : (goes : ℕ → Bool) (kept : List ℕ) (rs ss : List (ℕ × ℕ)) → with_old_ones goes kept (rs ++ ss) ≡ with_old_ones goes (with_old_ones goes kept ss) rs
 old_append goes kept [] ss = refl
 old_append goes kept (r ∷ rs) ss = ap (λ ns. with_one goes ns r) (old_append goes kept rs ss)
 
@@ -136,7 +136,7 @@ moved (x ∷ c) e g = ap (λ h. x ∷ h) (moved c e g)
 member_append : (n : ℕ) (xs ys : List ℕ) → member n (xs ++ ys) ≡ (member n xs || member n ys)
 member_append n xs ys = list_any-append (λ m. m == n) xs ys
 
-one_member : (goes : ℕ → Bool) (kept : List ℕ) (r : ℕ × ℕ) (n : ℕ) → member n (with_one goes kept r) ≡ (((member r.0 kept && goes r.1) && (r.1 == n)) || member n kept)
+pub one_member : (goes : ℕ → Bool) (kept : List ℕ) (r : ℕ × ℕ) (n : ℕ) → member n (with_one goes kept r) ≡ (((member r.0 kept && goes r.1) && (r.1 == n)) || member n kept)
 one_member goes kept r n = by (member r.0 kept && goes r.1)
   where
     by : (b : Bool) → member n (cond b (r.1 ∷ kept) kept) ≡ ((b && (r.1 == n)) || member n kept)

@@ -50,7 +50,7 @@ sorted_rest : (k : ℕ × ℕ) (ks : List (ℕ × ℕ)) → IsStrictlySortedBy p
 unfolding IsStrictlySortedBy
 sorted_rest k ks s = s.1
 
-entries_shown : (rows : Pairs) → IsStrictlySortedBy pair_order (keys_of rows) → AllByRecursion (λ e. lookup (is_at (pair_order e.0)) rows ≡ Some e.1) rows
+pub entries_shown : (rows : Pairs) → IsStrictlySortedBy pair_order (keys_of rows) → AllByRecursion (λ e. lookup (is_at (pair_order e.0)) rows ≡ Some e.1) rows
 entries_shown [] s = tt
 entries_shown (e ∷ rows) s = (
   ap (λ b. cond b (Some e.1) (lookup (is_at (pair_order e.0)) rows)) (at_itself e.0.0 e.0.1),

@@ -1,5 +1,5 @@
 -- What each event, each pair and each renewal tells of what a compaction keeps (own).
-use Rattle.std.specs.Prelude.{ℕ, Bool, true, false, cond, ◌&&◌, List, [], ◌∷◌, find, filter, nat_lt, ◌==◌}
+use Rattle.std.specs.Prelude.{ℕ, Bool, true, false, cond, ◌&&◌, List, [], ◌∷◌, Option, None, Some, find, filter, nat_lt, ◌==◌}
 use Rattle.std.specs.List.{list_any}
 use Rattle.std.specs.Option.{option_map}
 use Rattle.ws_model.specs.declared.event.Event.{Event}
@@ -13,8 +13,10 @@ use Rattle.ws_model.specs.Legal.{is_on_one, number_limit}
 use Rattle.ws_model.specs.Revocation.{live_lease_of}
 use Rattle.ws_model.specs.Versions.{latest}
 use Rattle.ws_fate.specs.declared.totals.Standing.{Standing}
-use Rattle.ws_fate.specs.declared.totals.Standing.TheVariants.{Open, Ended}
+use Rattle.ws_fate.specs.declared.totals.Standing.TheVariants.{Ended}
+use Rattle.ws_fate.specs.Rows.{Rows as FateRows, standing_at}
 use Rattle.ws_fate.specs.Stands.{is_owed_at}
+use Rattle.ws_tries.specs.Rows.{Rows as TryRows}
 use Rattle.ws_core_tables.specs.Stands.{is_number}
 
 -- the pairs by lease and version with what became of them
@@ -23,13 +25,9 @@ Pairs = List ((ℕ × ℕ) × Standing)
 
 -- ---- versions
 
-abbrev pub is_open : Standing → Bool
-is_open Open = true
-is_open _ = false
-
--- the pair is of version v, and owed at t
-abbrev pub owes : List Event → ℕ → ℕ → (ℕ × ℕ) × Standing → Bool
-owes h t v e = (e.0.1 == v) && (is_open e.1 && is_owed_at h t e.0.1 e.0.0)
+-- the pair, of a version and a lease, is of version v, and owed at t
+abbrev pub owes : List Event → ℕ → ℕ → ℕ × ℕ → Bool
+owes h t v p = (p.0 == v) && is_owed_at h t p.0 p.1
 
 abbrev pub is_latest : List Event → ℕ → Bool
 is_latest h v = list_any (λ w. w.ver == v) (latest h)
@@ -68,6 +66,20 @@ went_over versions n pairs = list_any (λ e. is_replaced e.1 && versions e.0.1) 
 -- and the lease has a number that leases may have
 abbrev pub goes_on : (ℕ → Bool) → Pairs → ℕ → Bool
 goes_on versions pairs n = nat_lt n number_limit && went_over versions n pairs
+
+-- a pair ended because its lease was replaced, where the table has it
+abbrev pub is_handed_on : Option Standing → Bool
+is_handed_on None = false
+is_handed_on (Some s) = is_replaced s
+
+-- a pair of lease n and such a version that has a room ended because the lease was replaced
+abbrev pub hands_on : (ℕ → Bool) → FateRows → TryRows → ℕ → Bool
+hands_on versions fates rooms n =
+    list_any (λ e. ((e.0.1 == n) && nat_lt e.0.0 number_limit) && (versions e.0.0 && is_handed_on (standing_at e.0.0 n fates))) rooms
+
+-- and the lease has a number that leases may have
+abbrev pub goes_on_in : (ℕ → Bool) → FateRows → TryRows → ℕ → Bool
+goes_on_in versions fates rooms n = nat_lt n number_limit && hands_on versions fates rooms n
 
 -- with a new lease that is among them, the lease that it replaced, where that goes on
 abbrev pub with_one : (ℕ → Bool) → List ℕ → ℕ × ℕ → List ℕ

@@ -1,3 +1,4 @@
 pub mod Finding
+pub mod Part
 pub mod Rows
 pub mod Stands

@@ -1,15 +1,16 @@
 -- For which history and moment such numbers stand, and what a core keeps of a history for them (own).
-use Rattle.std.specs.Prelude.{◌≡◌, ℕ, List, [], ◌∷◌, ◌++◌, filter, find, map, not, reverse, Option, Some, None}
+use Rattle.std.specs.Prelude.{◌≡◌, ℕ, Bool, true, false, ◌||◌, List, [], ◌∷◌, ◌++◌, filter, find, map, not, reverse, Option, Some, None}
 use Rattle.ws_model.specs.declared.event.Event.{Event}
 use Rattle.ws_model.specs.declared.event.Version.{Version}
 use Rattle.ws_model.specs.declared.event.What.{What}
-use Rattle.ws_model.specs.declared.event.What.TheVariants.{Fetched}
+use Rattle.ws_model.specs.declared.event.What.TheVariants.{Fetched, Tally}
 use Rattle.ws_model.specs.declared.lease.Lease.{Lease}
 use Rattle.ws_model.specs.Intents.{same_pair}
-use Rattle.ws_model.specs.Keep.{kept_leases, member}
+use Rattle.ws_model.specs.Keep.{keeps, kept_leases, member}
 use Rattle.ws_model.specs.Leases.{confirmed_intent, lease_of, live}
 use Rattle.ws_model.specs.Verdict.{is_kept_version}
 use Rattle.ws_tries.specs.Stands.{is_any_push}
+use Rattle.ws_kept.specs.Part.{IsPart}
 use Rattle.ws_kept.specs.Rows.{Rows}
 
 -- these are the versions and the leases that a compaction at t keeps of the history, and no others
@@ -54,3 +55,21 @@ replaces live (l ∷ ls) = with_old l.intent.n (find (λ m. same_pair l.intent m
 abbrev pub renewals : List Event → List (ℕ × ℕ)
 renewals [] = []
 renewals (e ∷ h) = replaces (live h e.t) (lease_of e.what (confirmed_intent e.what h)) ++ renewals h
+
+-- ---- without what no compaction would keep
+
+abbrev pub is_tally : What → Bool
+is_tally (Tally c) = true
+is_tally _ = false
+
+-- a compaction at t keeps the event, or it is a Tally, which tells what earlier ones forgot
+abbrev pub is_needed : List Event → ℕ → Event → Bool
+is_needed h t e = is_tally e.what || keeps h t e e.what
+
+-- the log, perhaps without events that no compaction from `since` on keeps: that it is such a part is said, not in which way
+abbrev pub IsLogged : List Event → ℕ → List Event → Type 0
+IsLogged h since log = ∥ IsPart (λ e. is_needed h since e ≡ true) log (log_of h) ∥₁
+
+-- the renewals, the oldest first, perhaps without those whose old lease no compaction from `since` on keeps
+abbrev pub AreRenewed : List Event → ℕ → List (ℕ × ℕ) → Type 0
+AreRenewed h since rows = ∥ IsPart (λ r. member r.1 (kept_leases h since) ≡ true) rows (reverse (renewals h)) ∥₁

@@ -9,7 +9,8 @@ ghost use Rattle.ws_model.specs.Keep.{member};
 ghost use Rattle.ws_model.specs.Leases.{is_on};
 ghost use Rattle.ws_model.specs.Legal.{Legal};
 ghost use Rattle.ws_core_tables.specs.Stands.{StandsFor, is_number};
-ghost use Rattle.ws_kept.specs.Finding.{gives_lease, goes_on, is_leased, is_noticed, is_replaced, went_over, with_old_ones};
+ghost use Rattle.ws_sweep.specs.Rows.{members};
+ghost use Rattle.ws_kept.specs.Finding.{gives_lease, goes_on_in, hands_on, is_handed_on, is_leased, is_noticed, with_old_ones};
 
 use crate::numbers::add;
 use std::alloc::Global;
@@ -17,6 +18,8 @@ use std::collections::BTreeSet;
 use ws_core_tables::Tables;
 use ws_fate::{Fates, Standing};
 use ws_model::{Cause, Event, Intent, Mode, NoMemory, What};
+use ws_sweep::Sweep;
+use ws_tries::Tries;
 
 /// The number of a lease is below it.
 const NUMBER_LIMIT: u64 = 9_223_372_036_854_775_808;
@@ -65,61 +68,99 @@ fn given_by(tables: &Tables, event: &Event, t: u64) -> Option<u64>
 pub(crate) fn first_kept(
     alloc: Global,
     tables: &Tables,
-    events: &[Event],
+    log: &Sweep<Event>,
     t: u64,
 ) -> Result<BTreeSet<u64>, NoMemory>
     requires in_time { t < 2 ^ 48 }
     ensures stands { (h : List Event) (since : ℕ) → StandsFor h since tables.now → Legal h → since ≤ t →
-        IfOk result (λ s. (n : ℕ) → contains nat_cmp s n ≡ list_any (λ e. gives_lease h t n e.what) events.now) }
+        IfOk result (λ s. (n : ℕ) → contains nat_cmp s n ≡ list_any (λ e. gives_lease h t n e.what) (members log.now)) }
 {
     let mut leases = BTreeSet::new(alloc);
-    for event in events {
-        add(&mut leases, given_by(tables, event, t))?;
-    }
+    add_given(&mut leases, tables, log.looked(), t)?;
+    add_given(&mut leases, tables, log.left(), t)?;
     Ok(leases)
+}
+
+/// Adds the leases that these events tell of, live at `t` or with an owed notice.
+fn add_given(
+    leases: &mut BTreeSet<u64>,
+    tables: &Tables,
+    events: &[Event],
+    t: u64,
+) -> Result<(), NoMemory>
+    requires in_time { t < 2 ^ 48 }
+    ensures { OnOk result ((h : List Event) (since : ℕ) → StandsFor h since tables.now → Legal h → since ≤ t →
+        (n : ℕ) → contains nat_cmp leases.new n ≡ (contains nat_cmp leases.old n || list_any (λ e. gives_lease h t n e.what) events.now)) }
+{
+    for event in events {
+        add(leases, given_by(tables, event, t))?;
+    }
+    Ok(())
 }
 
 // ---- leases that were replaced
 
-/// Whether a pair ended because its lease was replaced.
-fn is_replaced(standing: Standing) -> bool
-    ensures { result ≡ is_replaced standing }
+/// Whether a pair ended because its lease was replaced, where that is known. It takes no memory.
+pub fn is_handed_on(standing: Option<Standing>) -> bool
+    ensures { result ≡ is_handed_on standing }
 {
-    matches!(standing, Standing::Ended(Cause::Replaced))
+    matches!(standing, Some(Standing::Ended(Cause::Replaced)))
 }
 
-/// Whether a pair of this lease and a kept version ended because the lease was replaced.
-fn went_over(fates: &Fates, versions: &BTreeSet<u64>, lease: u64) -> bool
-    requires in_range { lease < 2 ^ 63 }
-    ensures { result ≡ went_over (contains nat_cmp versions.now) lease fates.now.pairs }
+/// Whether a pair of this lease and a kept version, which has a room, ended because the lease was replaced.
+fn hands_on(fates: &Fates, tries: &Tries, versions: &BTreeSet<u64>, lease: u64) -> bool
+    ensures { result ≡ hands_on (contains nat_cmp versions.now) fates.now tries.now lease }
 {
-    for (pair, standing) in fates.pairs_of(lease) {
-        if is_replaced(*standing) && versions.contains(&pair.1) {
+    let mut from = 0;
+    while let Some(ver) = tries.next_version(lease, from) {
+        if ver >= NUMBER_LIMIT {
+            return false;
+        }
+        if versions.contains(&ver) && is_handed_on(fates.get(ver, lease)) {
             return true;
         }
+        from = ver + 1;
     }
     false
 }
 
 /// Whether a lease has a number that leases may have, and a pair of it and a kept version went over.
-fn goes_on(fates: &Fates, versions: &BTreeSet<u64>, lease: u64) -> bool
-    ensures { result ≡ goes_on (contains nat_cmp versions.now) fates.now.pairs lease }
+fn goes_on(fates: &Fates, tries: &Tries, versions: &BTreeSet<u64>, lease: u64) -> bool
+    ensures { result ≡ goes_on_in (contains nat_cmp versions.now) fates.now tries.now lease }
 {
-    lease < NUMBER_LIMIT && went_over(fates, versions, lease)
+    lease < NUMBER_LIMIT && hands_on(fates, tries, versions, lease)
 }
 
 /// Adds the lease that a kept one replaced, where a pair of a kept version went over.
 fn add_replaced(
     leases: &mut BTreeSet<u64>,
     fates: &Fates,
+    tries: &Tries,
     versions: &BTreeSet<u64>,
     renewal: (u64, u64),
 ) -> Result<(), NoMemory>
     ensures { OnOk result ((n : ℕ) → contains nat_cmp leases.new n ≡
-        (contains nat_cmp leases.old n || ((contains nat_cmp leases.old renewal.0 && goes_on (contains nat_cmp versions.now) fates.now.pairs renewal.1) && (renewal.1 == n)))) }
+        (contains nat_cmp leases.old n || ((contains nat_cmp leases.old renewal.0 && goes_on_in (contains nat_cmp versions.now) fates.now tries.now renewal.1) && (renewal.1 == n)))) }
 {
-    if leases.contains(&renewal.0) && goes_on(fates, versions, renewal.1) {
+    if leases.contains(&renewal.0) && goes_on(fates, tries, versions, renewal.1) {
         leases.insert(renewal.1)?;
+    }
+    Ok(())
+}
+
+/// Adds to these leases, with each lease, the one that it replaced, where a pair of a kept version went over:
+/// from the newest of these renewals to the oldest.
+fn add_all_replaced(
+    leases: &mut BTreeSet<u64>,
+    fates: &Fates,
+    tries: &Tries,
+    versions: &BTreeSet<u64>,
+    renewals: &[(u64, u64)],
+) -> Result<(), NoMemory>
+    ensures { OnOk result ((n : ℕ) → contains nat_cmp leases.new n ≡ member n (with_old_ones (goes_on_in (contains nat_cmp versions.now) fates.now tries.now) leases.old.keys renewals.now)) }
+{
+    for at in (0..renewals.len()).rev() {
+        add_replaced(leases, fates, tries, versions, renewals[at])?;
     }
     Ok(())
 }
@@ -128,15 +169,15 @@ fn add_replaced(
 /// replaced lease is older than its successor, so one pass from the newest renewal to the oldest finds all.
 pub(crate) fn with_replaced(
     fates: &Fates,
-    renewals: &[(u64, u64)],
+    tries: &Tries,
+    renewals: &Sweep<(u64, u64)>,
     versions: &BTreeSet<u64>,
     first: BTreeSet<u64>,
 ) -> Result<BTreeSet<u64>, NoMemory>
-    ensures { IfOk result (λ s. (n : ℕ) → contains nat_cmp s n ≡ member n (with_old_ones (goes_on (contains nat_cmp versions.now) fates.now.pairs) first.keys renewals.now)) }
+    ensures { IfOk result (λ s. (n : ℕ) → contains nat_cmp s n ≡ member n (with_old_ones (goes_on_in (contains nat_cmp versions.now) fates.now tries.now) first.keys (members renewals.now))) }
 {
     let mut leases = first;
-    for at in (0..renewals.len()).rev() {
-        add_replaced(&mut leases, fates, versions, renewals[at])?;
-    }
+    add_all_replaced(&mut leases, fates, tries, versions, renewals.left())?;
+    add_all_replaced(&mut leases, fates, tries, versions, renewals.looked())?;
     Ok(leases)
 }

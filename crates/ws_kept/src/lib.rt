@@ -10,4 +10,5 @@ mod tests;
 mod versions;
 
 pub use kept::Kept;
+pub use leases::is_handed_on;
 pub use versions::is_latest;

@@ -7,6 +7,8 @@ use std::test::Fail;
 use ws_core_tables::Tables;
 use ws_fate::{Fates, Standing};
 use ws_model::{Cause, NoMemory};
+use ws_sweep::Sweep;
+use ws_tries::Tries;
 
 /// Lease 2 replaced lease 1, lease 5 then lease 4, and lease 3 then lease 2.
 const RENEWALS: [(u64, u64); 3] = [(2, 1), (5, 4), (3, 2)];
@@ -84,6 +86,29 @@ fn pairs(alloc: Global) -> Result<Fates, NoMemory> {
     Ok(fates)
 }
 
+/// A room for each of the pairs.
+fn rooms(alloc: Global) -> Result<Tries, NoMemory> {
+    let mut tries = Tries::empty(alloc);
+    for (ver, lease, _) in PAIRS {
+        if tries.of(ver, lease).is_none() {
+            tries.make_room(ver, lease)?;
+        }
+    }
+    Ok(tries)
+}
+
+/// The renewals, of which the first is looked at already.
+fn renewals(alloc: Global) -> Result<Sweep<(u64, u64)>, NoMemory> {
+    let mut renewals = Sweep::empty(alloc);
+    for renewal in RENEWALS {
+        renewals.push(renewal)?;
+    }
+    if renewals.next().is_some() {
+        renewals.keep_next();
+    }
+    Ok(renewals)
+}
+
 fn set(alloc: Global, numbers: &[u64]) -> Result<BTreeSet<u64>, NoMemory> {
     let mut set = BTreeSet::new(alloc);
     for number in numbers {
@@ -92,20 +117,24 @@ fn set(alloc: Global, numbers: &[u64]) -> Result<BTreeSet<u64>, NoMemory> {
     Ok(set)
 }
 
-fn holds(alloc: Global, fates: &Fates, case: &Case) -> Result<bool, NoMemory> {
+fn holds(alloc: Global, fates: &Fates, tries: &Tries, case: &Case) -> Result<bool, NoMemory> {
     let versions = set(alloc, case.versions)?;
     let first = set(alloc, case.first)?;
-    let leases = with_replaced(fates, &RENEWALS, &versions, first)?;
+    let leases = with_replaced(fates, tries, &renewals(alloc)?, &versions, first)?;
     Ok(leases == set(alloc, case.kept)?)
 }
 
 #[test]
 fn replaced_leases(rt: HostRuntime) -> Result<(), Fail> {
     let alloc = rt.alloc();
-    let fates = pairs(alloc)?;
+    let (fates, tries) = (pairs(alloc)?, rooms(alloc)?);
     for case in &CASES {
         assert_eq!(rt;
-            (case.first, case.versions, holds(alloc, &fates, case)?),
+            (
+                case.first,
+                case.versions,
+                holds(alloc, &fates, &tries, case)?
+            ),
             (case.first, case.versions, true)
         );
     }
@@ -118,7 +147,15 @@ fn nothing_is_kept(rt: HostRuntime) -> Result<(), Fail> {
     let tables = Tables::empty(alloc);
     for kept in [
         Kept::nothing(alloc),
-        Kept::of(alloc, &tables, &pairs(alloc)?, &[], &RENEWALS, 1000)?,
+        Kept::of(
+            alloc,
+            &tables,
+            &pairs(alloc)?,
+            &rooms(alloc)?,
+            &Sweep::empty(alloc),
+            &renewals(alloc)?,
+            1000,
+        )?,
     ] {
         assert_eq!(rt;
             (kept.has_version(7), kept.has_lease(3), kept.has_pair(7, 3)),

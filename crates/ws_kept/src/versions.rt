@@ -1,5 +1,5 @@
 // The versions that a compaction keeps: those that are owed, and the latest of each topic.
-ghost use Rattle.std.specs.Prelude.{◌≡◌, ◌≤◌, ◌==◌, ◌||◌, ℕ, List, IfOk};
+ghost use Rattle.std.specs.Prelude.{◌≡◌, ◌≤◌, ◌==◌, ◌||◌, ℕ, List, IfOk, OnOk};
 ghost use Rattle.std.specs.BTreeSet.{contains};
 ghost use Rattle.std.specs.List.{list_any};
 ghost use Rattle.std.specs.Ordering.{nat_cmp};
@@ -7,49 +7,44 @@ ghost use Rattle.ws_model.specs.declared.event.Event.{Event};
 ghost use Rattle.ws_model.specs.Legal.{Legal};
 ghost use Rattle.ws_model.specs.Pairs.{owed};
 ghost use Rattle.ws_model.specs.Versions.{is_version, latest_of};
-ghost use Rattle.ws_fate.specs.Stands.{AreShown};
+ghost use Rattle.ws_tries.specs.Stands.{HaveRooms};
+ghost use Rattle.ws_sweep.specs.Rows.{members};
 ghost use Rattle.ws_core_tables.specs.Stands.{StandsFor, is_number};
-ghost use Rattle.ws_kept.specs.Finding.{gives_latest, is_latest, is_open, owes};
+ghost use Rattle.ws_kept.specs.Finding.{gives_latest, is_latest, owes};
 
 use crate::numbers::add;
 use std::alloc::Global;
 use std::collections::BTreeSet;
 use ws_core_tables::Tables;
-use ws_fate::{Fates, Standing};
 use ws_model::{Event, NoMemory, What};
+use ws_sweep::Sweep;
+use ws_tries::Tries;
 
-/// Whether nothing is said of a pair's end.
-fn is_open(standing: Standing) -> bool
-    ensures { result ≡ is_open standing }
-{
-    matches!(standing, Standing::Open)
-}
-
-/// The version of a pair, which has the numbers of its lease and its version, where it is owed at `t`.
-fn owed_by(tables: &Tables, pair: &(u64, u64), standing: Standing, t: u64) -> Option<u64>
+/// The version of a pair, which has the numbers of its version and its lease, where it is owed at `t`.
+fn owed_by(tables: &Tables, pair: &(u64, u64), t: u64) -> Option<u64>
     ensures stands { (h : List Event) (since : ℕ) → StandsFor h since tables.now → since ≤ t →
-        (v : ℕ) → is_number result v ≡ owes h t v (pair.now, standing) }
+        (v : ℕ) → is_number result v ≡ owes h t v pair.now }
 {
-    if is_open(standing) && tables.is_owed(pair.1, pair.0, t) {
-        Some(pair.1)
+    if tables.is_owed(pair.0, pair.1, t) {
+        Some(pair.0)
     } else {
         None
     }
 }
 
-/// The versions that are owed at `t` to some lease.
+/// The versions that are owed at `t` to some lease: each of their pairs has a room.
 pub(crate) fn owed_versions(
     alloc: Global,
     tables: &Tables,
-    fates: &Fates,
+    tries: &Tries,
     t: u64,
 ) -> Result<BTreeSet<u64>, NoMemory>
-    ensures stands { (h : List Event) (since : ℕ) → StandsFor h since tables.now → AreShown h since fates.now → Legal h → since ≤ t →
+    ensures stands { (h : List Event) (since : ℕ) → StandsFor h since tables.now → HaveRooms h t tries.now → Legal h → since ≤ t →
         IfOk result (λ s. (v : ℕ) → contains nat_cmp s v ≡ list_any (λ p. p.version.ver == v) (owed h t)) }
 {
     let mut versions = BTreeSet::new(alloc);
-    for (pair, standing) in fates.pairs() {
-        add(&mut versions, owed_by(tables, pair, *standing, t))?;
+    for (pair, _) in tries.rooms() {
+        add(&mut versions, owed_by(tables, pair, t))?;
     }
     Ok(versions)
 }
@@ -85,18 +80,32 @@ fn latest_by(tables: &Tables, event: &Event) -> Option<u64>
     }
 }
 
-/// These versions, and those that the events fetched and that are the latest of their topics.
+/// These versions, and those that the events of the log fetched and that are the latest of their topics.
 pub(crate) fn with_latest(
     tables: &Tables,
-    events: &[Event],
+    log: &Sweep<Event>,
     first: BTreeSet<u64>,
 ) -> Result<BTreeSet<u64>, NoMemory>
     ensures stands { (h : List Event) (since : ℕ) → StandsFor h since tables.now → Legal h →
-        IfOk result (λ s. (v : ℕ) → contains nat_cmp s v ≡ (contains nat_cmp first v || list_any (λ e. gives_latest h v e.what) events.now)) }
+        IfOk result (λ s. (v : ℕ) → contains nat_cmp s v ≡ (contains nat_cmp first v || list_any (λ e. gives_latest h v e.what) (members log.now))) }
 {
     let mut versions = first;
-    for event in events {
-        add(&mut versions, latest_by(tables, event))?;
-    }
+    add_latest(&mut versions, tables, log.looked())?;
+    add_latest(&mut versions, tables, log.left())?;
     Ok(versions)
+}
+
+/// Adds the versions that these events fetched and that are the latest of their topics.
+fn add_latest(
+    versions: &mut BTreeSet<u64>,
+    tables: &Tables,
+    events: &[Event],
+) -> Result<(), NoMemory>
+    ensures { OnOk result ((h : List Event) (since : ℕ) → StandsFor h since tables.now → Legal h →
+        (v : ℕ) → contains nat_cmp versions.new v ≡ (contains nat_cmp versions.old v || list_any (λ e. gives_latest h v e.what) events.now)) }
+{
+    for event in events {
+        add(versions, latest_by(tables, event))?;
+    }
+    Ok(())
 }

@@ -1,3 +1,4 @@
 pub mod Chosen
-pub mod Restored
 pub mod Logged
+mod Mapped
+pub mod Restored

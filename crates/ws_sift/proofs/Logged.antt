@@ -1,18 +1,24 @@
 -- The log of a history, event by event.
-use Rattle.std.proofs.Common.{◌≡◌, ℕ, Bool, true, false, cond, not, ◌&&◌, List, [], ◌∷◌, ◌++◌, refl, ap, sym, ◌∙◌, subst, append_assoc}
+use Rattle.std.proofs.Common.{◌≡◌, ℕ, ◌≤◌, Bool, true, false, cond, not, ◌&&◌, List, [], ◌∷◌, ◌++◌, refl, ap, sym, ◌∙◌, subst, append_assoc}
 use Rattle.std.specs.Prelude.{filter, map, reverse}
 use Rattle.std.specs.List.{AllByRecursion}
+use Rattle.std.proofs.lemmas.Bool.{and_parts, or_right}
 use Rattle.std.proofs.lemmas.List.{append-nil, reverse-append}
 use Rattle.std.proofs.lemmas.List.Elements.{filter-append}
+use Rattle.std.proofs.Props.{props}
 use Rattle.ws_model.specs.declared.event.Event.{Event}
 use Rattle.ws_model.specs.declared.event.What.{What}
 use Rattle.ws_model.specs.declared.event.What.TheVariants.{Asked, Confirmed, Declined, Unheard, Barred, Noticed, Pinged, Fetched, Same, Unfetched, Pushed, Tally, Revoked}
 use Rattle.ws_model.specs.Keep.{keeps}
 use Rattle.ws_model.specs.Legal.{Legal}
-use Rattle.ws_laws.proofs.ListLaws.{all_append, all_filter, filter-filter}
+use Rattle.ws_laws.proofs.ListLaws.{all_append, all_filter, all_from, filter-filter}
+use Rattle.ws_compaction.proofs.DroppedEvents.{drops_event_later}
 use Rattle.ws_tries.specs.Stands.{is_any_push}
-use Rattle.ws_kept.specs.Stands.{light, light_event, log_of, other_events}
-use Rattle.ws_sift.specs.Sifted.{IsFoundIn, is_kept_other}
+use Rattle.ws_kept.specs.Part.{IsPart}
+use Rattle.ws_kept.specs.Stands.{is_needed, is_tally, light, light_event, log_of, other_events}
+use Rattle.ws_kept.proofs.Part.{part_all, part_filter}
+use Rattle.ws_sift.specs.Sifted.{IsFoundIn, Sifts, is_kept_other}
+use Rattle.ws_sift.proofs.Mapped.{IsMapped, mapped}
 use Rattle.ws_sift.proofs.Restored.{all_found}
 
 -- ---- lists turned round
@@ -55,6 +61,12 @@ keeps_light h t e (Revoked n reason) = refl
 pub kept_light : (h : List Event) (t : ℕ) (e : Event) → is_kept_other h t (light_event e) ≡ is_kept_other h t e
 kept_light h t e = keeps_light h t e e.what
 
+-- what a compaction at t keeps is needed earlier
+kept_needed : (h : List Event) (since t : ℕ) (e : Event) → Legal h → since ≤ t → is_kept_other h t e ≡ true → is_needed h since (light_event e) ≡ true
+kept_needed h since t e l le k =
+    let light_kept = kept_light h t e ∙ k in
+    or_right (is_tally (light e.what)) _ (drops_event_later h since t (light_event e) l le (and_parts (not (is_any_push (light e.what))) (keeps h t (light_event e) (light e.what)) light_kept).1)
+
 kept_others : (h : List Event) (t : ℕ) → filter (is_kept_other h t) (other_events h) ≡ reverse (filter (is_kept_other h t) h)
 kept_others h t =
     filter-reverse (is_kept_other h t) (filter (λ e. not (is_any_push e.what)) h)
@@ -66,20 +78,19 @@ kept_others h t =
 
 -- ---- a walk over the log
 
--- the events of which the rest of the log is left, and what was kept of those before
-pub record Sifts (h : List Event) (t : ℕ) (left events : List Event) : Type 0 where
-  pub rest : List Event
-  pub logged : left ≡ map light_event rest
-  pub found : AllByRecursion (IsFoundIn h) rest
-  pub done : events ++ filter (is_kept_other h t) rest ≡ reverse (filter (is_kept_other h t) h)
-
-pub begun : (h : List Event) (t : ℕ) (log events : List Event) → Legal h → log ≡ log_of h → events ≡ [] → Sifts h t log events
-begun h t log events l k e =
+-- what a compaction at t keeps of a part of the log, it keeps of all events
+pub begun : (h : List Event) (since t : ℕ) (log events : List Event) → Legal h → since ≤ t → IsPart (λ e. is_needed h since e ≡ true) log (log_of h) → events ≡ [] → Sifts h t log events
+begun h since t log events l le k e =
+    let m : IsMapped light_event (λ x. is_needed h since x ≡ true) log (other_events h) = mapped light_event (λ x. is_needed h since x ≡ true) k (other_events h) refl in
     record {
-      rest = other_events h;
-      logged = k;
-      found = all_reverse (IsFoundIn h) (filter (λ e. not (is_any_push e.what)) h) (all_filter (IsFoundIn h) (λ e. not (is_any_push e.what)) h (all_found h l));
-      done = ap (λ es. es ++ filter (is_kept_other h t) (other_events h)) e ∙ kept_others h t;
+      rest = m.rest;
+      logged = m.is;
+      found = part_all (λ x. is_needed h since (light_event x) ≡ true) (IsFoundIn h)
+          (all_reverse (IsFoundIn h) (filter (λ e. not (is_any_push e.what)) h) (all_filter (IsFoundIn h) (λ e. not (is_any_push e.what)) h (all_found h l))) m.left;
+      done = ap (λ es. es ++ filter (is_kept_other h t) m.rest) e
+          ∙ part_filter (λ x. is_needed h since (light_event x) ≡ true) (is_kept_other h t)
+          (all_from (λ x. is_kept_other h t x ≡ true → is_needed h since (light_event x) ≡ true) (λ x k. kept_needed h since t x l le k) (other_events h)) m.left
+          ∙ kept_others h t;
     }
 
 pub ended : (h : List Event) (t : ℕ) (events : List Event) → Sifts h t [] events → events ≡ reverse (filter (is_kept_other h t) h)
@@ -121,3 +132,6 @@ next h t e left events s = by s.rest s.logged s.found s.done
             done = sym (ap (λ b. events ++ cond b (w ∷ filter (is_kept_other h t) rest) (filter (is_kept_other h t) rest)) c) ∙ d;
           };
         }
+
+pub events_set : IsSet (List Event)
+events_set = hlevel props

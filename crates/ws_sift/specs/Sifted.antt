@@ -1,5 +1,6 @@
 -- What is kept of a history, but the pushes, and what it is found from (own).
-use Rattle.std.specs.Prelude.{◌≡◌, ℕ, ◌≤◌, Bool, not, ◌&&◌, List, Option, Some, None, find, ◌==◌}
+use Rattle.std.specs.Prelude.{◌≡◌, ℕ, ◌≤◌, Bool, not, ◌&&◌, List, ◌++◌, Option, Some, None, filter, find, map, reverse, ◌==◌}
+use Rattle.std.specs.List.{AllByRecursion}
 use Rattle.ws_model.specs.declared.event.Event.{Event}
 use Rattle.ws_model.specs.declared.event.Version.{Version}
 use Rattle.ws_model.specs.declared.event.What.{What}
@@ -9,7 +10,7 @@ use Rattle.ws_model.specs.Legal.{Legal}
 use Rattle.ws_model.specs.Versions.{versions}
 use Rattle.ws_tries.specs.Stands.{is_any_push}
 use Rattle.ws_kept.specs.Rows.{Rows as KeptRows}
-use Rattle.ws_kept.specs.Stands.{AreKept}
+use Rattle.ws_kept.specs.Stands.{AreKept, light_event}
 use Rattle.ws_core_tables.specs.Rows.{Rows as TableRows}
 use Rattle.ws_core_tables.specs.Stands.{StandsFor}
 
@@ -31,3 +32,10 @@ version_in _ = None
 -- where a version was fetched, it is the one that the history has by its number
 abbrev pub IsFoundIn : List Event → Event → Type 0
 IsFoundIn h e = (v : Version) → e.what ≡ Fetched v → find (λ w. w.ver == v.ver) (versions h) ≡ Some v
+
+-- the events of which the rest of the log is left, and what a compaction at t keeps of those before
+pub record Sifts (h : List Event) (t : ℕ) (left events : List Event) : Type 0 where
+  pub rest : List Event
+  pub logged : left ≡ map light_event rest
+  pub found : AllByRecursion (IsFoundIn h) rest
+  pub done : events ++ filter (is_kept_other h t) rest ≡ reverse (filter (is_kept_other h t) h)

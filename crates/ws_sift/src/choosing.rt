@@ -11,21 +11,22 @@ use ws_core_tables::Tables;
 use ws_kept::Kept;
 use ws_model::{Event, What};
 
-fn is_pending(tables: &Tables, n: u64) -> bool
+/// Whether an intent is pending.
+pub fn is_pending(tables: &Tables, n: u64) -> bool
     ensures { (h : List Event) (since : ℕ) → StandsFor h since tables.now → result ≡ is_among (pending h) n }
 {
     tables.pending_intent(n).is_some()
 }
 
-// Whether the notice of a number is owed.
-fn is_denied(tables: &Tables, n: u64) -> bool
+/// Whether the notice of a number is owed.
+pub fn is_denied(tables: &Tables, n: u64) -> bool
     ensures { (h : List Event) (since : ℕ) → StandsFor h since tables.now → result ≡ is_among (notices h) n }
 {
     tables.denied_intent(n).is_some()
 }
 
-// Whether an intent is pending, or its notice is owed.
-fn is_awaited(tables: &Tables, n: u64) -> bool
+/// Whether an intent is pending, or its notice is owed.
+pub fn is_awaited(tables: &Tables, n: u64) -> bool
     ensures { (h : List Event) (since : ℕ) → StandsFor h since tables.now → result ≡ (is_among (pending h) n || is_among (notices h) n) }
 {
     is_pending(tables, n) || is_denied(tables, n)
@@ -37,8 +38,8 @@ fn is_kept_request(tables: &Tables, kept: &Kept, n: u64) -> bool
     is_awaited(tables, n) || kept.has_lease(n)
 }
 
-// Whether a ping is the latest of a topic whose fetch is owed.
-fn is_kept_ping(tables: &Tables, event: &Event, topic: &[u8]) -> bool
+/// Whether a ping is the latest of a topic whose fetch is owed.
+pub fn is_kept_ping(tables: &Tables, event: &Event, topic: &[u8]) -> bool
     ensures { (h : List Event) (since : ℕ) → StandsFor h since tables.now → result ≡ is_kept_ping h event.now topic.now }
 {
     match tables.owed_fetch(topic) {
@@ -47,8 +48,8 @@ fn is_kept_ping(tables: &Tables, event: &Event, topic: &[u8]) -> bool
     }
 }
 
-// Whether a missed fetch came after the latest ping of a topic whose fetch is owed.
-fn is_kept_miss(tables: &Tables, event: &Event, topic: &[u8]) -> bool
+/// Whether a missed fetch came after the latest ping of a topic whose fetch is owed.
+pub fn is_kept_miss(tables: &Tables, event: &Event, topic: &[u8]) -> bool
     ensures { (h : List Event) (since : ℕ) → StandsFor h since tables.now → result ≡ is_kept_miss h event.now topic.now }
 {
     match tables.owed_fetch(topic) {

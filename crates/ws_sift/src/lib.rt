@@ -5,4 +5,5 @@ mod choosing;
 mod restoring;
 mod sift;
 
+pub use choosing::{is_awaited, is_denied, is_kept_miss, is_kept_ping, is_pending};
 pub use sift::kept_events;

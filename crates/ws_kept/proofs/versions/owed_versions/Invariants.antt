@@ -13,5 +13,5 @@ invariant-loop-pair l =
       next : (goal.iterator-loop-pair).can_next l.pair-iterator;
       finite : (goal.iterator-loop-pair).is_finite l.pair-iterator;
       so_far : (h : List Event) (since : ℕ) → StandsFor h since l.tables → since ≤ l.t
-          → (v : ℕ) → (contains nat_cmp l.versions v || list_any (owes h l.t v) l.pair-iterator) ≡ list_any (owes h l.t v) l.fates.pairs;
+          → (v : ℕ) → (contains nat_cmp l.versions v || list_any (λ e. owes h l.t v e.0) l.pair-iterator) ≡ list_any (λ e. owes h l.t v e.0) l.tries;
     }

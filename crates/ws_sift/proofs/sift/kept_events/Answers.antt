@@ -1,35 +1,23 @@
-use Rattle.std.proofs.Common.{◌≡◌, ◌+◌, List, [], ◌∷◌, ◌++◌, drop, ap, sym, subst, ◌∙◌, arith}
-use Rattle.std.proofs.lemmas.List.{drop_all, drop_more}
+use Rattle.std.proofs.Common.{◌≡◌, List, [], ◌++◌, ap, sym, subst, ◌∙◌}
+use Rattle.std.proofs.lemmas.List.{append-nil}
+use mathlib.Core.Logic.{∥∥₁_elim}
 use Rattle.ws_model.specs.declared.event.Event.{Event}
-use Rattle.ws_sift.specs.Sifted.{is_kept_other}
-use Rattle.ws_sift.proofs.Logged.{Next, Sifts, begun, ended, kept_light, next}
+use Rattle.ws_sweep.specs.Rows.{members}
+use Rattle.ws_sift.specs.Sifted.{ArePast, Sifts}
+use Rattle.ws_sift.proofs.Logged.{begun, ended, events_set}
 use Rattle.ws_sift.proofs.sift.kept_events.Goals as goal
-use Rattle.ws_sift.proofs.sift.kept_events.Goals.{then-is_kept+in_ok-restored+in_ok-push, else-is_kept}
-
-pub loop-event-init : goal.loop-event-init
-loop-event-init c h since t p k = begun h t c.args.log.now _ p.legal k c.new-events.ensures.items
-
-pub loop-event-preserved : goal.loop-event-preserved
-loop-event-preserved c h since t p k =
-    let i = c.loop-event.event-index in
-    let event : Event = c.event-item.result in
-    let after : List Event = drop (i + 1) c.args.log.now in
-    let split : drop i c.args.log.now ≡ event ∷ after = drop_more c.args.log.now i event (omega arith) ∙ ap (λ d. d ∷ after) (sym c.event-item.is) in
-    let n : Next h t event after c.loop-event.events.items = next h t event after c.loop-event.events.items (subst (λ es. Sifts h t es c.loop-event.events.items) split (c.loop-event.invariant h since t p k)) in
-    let same : c.is_kept.result ≡ is_kept_other h t n.whole = c.is_kept.ensures h since t p ∙ ap (is_kept_other h t) n.logged ∙ kept_light h t n.whole in
-    elim c.if-is_kept.branch [
-      | then-is_kept+in_ok-restored+in_ok-push w ↦
-          let kept = sym same ∙ w.if-is_kept.true in
-          subst (Sifts h t after)
-          (sym (ap (λ v. v.items) w.events-is ∙ w.in_ok-push.ensures.items ∙ ap (λ d. c.loop-event.events.items ++ d ∷ []) (w.in_ok-restored.ensures h since t c.args.kept.now n.whole p n.found n.logged kept)))
-          (n.taken kept)
-      | else-is_kept w ↦ subst (Sifts h t after) (sym (ap (λ v. v.items) w.events-is)) (n.dropped (sym same ∙ w.if-is_kept.false))
-    ]
 
 pub returns : goal.returns
 returns c =
     record {
       stands = λ h since t s a k l later.
-          ended h t c.loop-event.events.items
-          (subst (λ es. Sifts h t es c.loop-event.events.items) (drop_all c.loop-event.event-index c.args.log.now (omega arith)) (c.loop-event.invariant h since t (record { stands = s; kept = a; legal = l; in_time = later }) k));
+          ∥∥₁_elim k (events_set _ _)
+          (λ part.
+          let p : ArePast h since t c.args.tables.now c.args.kept.now = record { stands = s; kept = a; legal = l; in_time = later } in
+          let none : c.new-events.result.items ≡ [] = c.new-events.ensures.items in
+          let all : Sifts h t (c.looked.result.now ++ c.args.log.now.left) c.new-events.result.items =
+          subst (λ es. Sifts h t (es ++ c.args.log.now.left) c.new-events.result.items) (sym c.looked.ensures) (begun h since t (members c.args.log.now) c.new-events.result.items l later part none) in
+          let first : Sifts h t c.args.log.now.left c.add_kept.new.events.items = c.in_ok-add_kept.ensures h since t p c.args.log.now.left all in
+          ended h t c.add_kept-2.new.events.items
+          (c.in_ok-add_kept-2.ensures h since t p [] (subst (λ es. Sifts h t es c.add_kept.new.events.items) (sym (append-nil c.left.result.now ∙ c.left.ensures)) first)));
     }

@@ -1,6 +1,7 @@
 use Rattle.std.proofs.Common.{refl, sym, subst}
 use Rattle.ws_model.specs.declared.event.Event.{Event}
 use Rattle.ws_model.specs.declared.event.What.TheVariants.{Pushed}
+use Rattle.ws_sweep.specs.Rows.{members}
 use Rattle.ws_core.specs.GivenBack.{RoomsAreGone}
 use Rattle.ws_core.specs.Rows.{Rows}
 use Rattle.ws_core.specs.Stands.{GoesOn, StandsFor}
@@ -22,11 +23,11 @@ let_go-requires c = let f = c.requires.follows in record { in_time = in_time (re
 pub returns : goal.returns
 returns c =
     let e : Event = record { serial = c.args.serial; t = c.args.t; what = Pushed c.args.ver c.args.lease c.args.how } in
-    let old : Rows = record { ledger = c.self.inside.ledger; log = c.self.inside.log.items; renewals = c.self.inside.renewals.items; tries = c.self.inside.tries } in
-    let mid : Rows = record { ledger = c.apply_pushed.new.self; log = c.self.inside.log.items; renewals = c.self.inside.renewals.items; tries = c.add.new.self } in
-    let less : Rows = record { ledger = c.apply_pushed.new.self; log = c.self.inside.log.items; renewals = c.self.inside.renewals.items; tries = c.give_back.new.tries } in
-    let rest : Rows = record { ledger = c.apply_pushed.new.self; log = c.self.inside.log.items; renewals = c.self.inside.renewals.items; tries = c.give_back_pairs.new.tries } in
-    let new : Rows = record { ledger = c.let_go.new.ledger; log = c.self.inside.log.items; renewals = c.self.inside.renewals.items; tries = c.let_go.new.tries } in
+    let old : Rows = record { ledger = c.self.inside.ledger; log = members c.self.inside.log; renewals = members c.self.inside.renewals; tries = c.self.inside.tries } in
+    let mid : Rows = record { ledger = c.apply_pushed.new.self; log = members c.self.inside.log; renewals = members c.self.inside.renewals; tries = c.add.new.self } in
+    let less : Rows = record { ledger = c.apply_pushed.new.self; log = members c.self.inside.log; renewals = members c.self.inside.renewals; tries = c.give_back.new.tries } in
+    let rest : Rows = record { ledger = c.apply_pushed.new.self; log = members c.self.inside.log; renewals = members c.self.inside.renewals; tries = c.give_back_pairs.new.tries } in
+    let new : Rows = record { ledger = c.let_go.new.ledger; log = members c.self.inside.log; renewals = members c.self.inside.renewals; tries = c.let_go.new.tries } in
     let goes = pushed_goes e c.args.ver c.args.lease c.args.how old mid refl c.apply_pushed.ensures.stands refl refl c.add.ensures.look in
     let bears = pushed_bears e c.args.ver c.args.lease c.args.how old mid refl c.add.ensures.look in
     let back = goes_back e c.touched_by_push-touched.result old mid c.give_back.new.tries goes bears c.give_back.ensures (λ h since s l le. c.touched_by_push-touched.ensures) in

@@ -6,11 +6,12 @@ use Rattle.ws_model.specs.declared.event.Event.{Event}
 use Rattle.ws_model.specs.Legal.{Legal}
 use Rattle.ws_core_tables.specs.Stands.{StandsFor}
 use Rattle.ws_kept.specs.Finding.{gives_lease}
-use Rattle.ws_kept.proofs.leases.first_kept.Given as goal
+use Rattle.ws_kept.proofs.leases.add_given.Given as goal
 
 abbrev pub invariant-loop-event : goal.invariant-loop-event
 invariant-loop-event l =
     record {
       so_far : (h : List Event) (since : ℕ) → StandsFor h since l.tables → Legal h → since ≤ l.t
-          → (n : ℕ) → (contains nat_cmp l.leases n || list_any (λ e. gives_lease h l.t n e.what) (drop l.event-index l.events)) ≡ list_any (λ e. gives_lease h l.t n e.what) l.events;
+          → (n : ℕ) → (contains nat_cmp l.leases n || list_any (λ e. gives_lease h l.t n e.what) (drop l.event-index l.events))
+          ≡ (contains nat_cmp l.fn.leases n || list_any (λ e. gives_lease h l.t n e.what) l.events);
     }

@@ -6,12 +6,12 @@ use Rattle.ws_model.specs.declared.event.Event.{Event}
 use Rattle.ws_model.specs.Legal.{Legal}
 use Rattle.ws_core_tables.specs.Stands.{StandsFor}
 use Rattle.ws_kept.specs.Finding.{gives_latest}
-use Rattle.ws_kept.proofs.versions.with_latest.Given as goal
+use Rattle.ws_kept.proofs.versions.add_latest.Given as goal
 
 abbrev pub invariant-loop-event : goal.invariant-loop-event
 invariant-loop-event l =
     record {
       so_far : (h : List Event) (since : ℕ) → StandsFor h since l.tables → Legal h
           → (v : ℕ) → (contains nat_cmp l.versions v || list_any (λ e. gives_latest h v e.what) (drop l.event-index l.events))
-          ≡ (contains nat_cmp l.fn.first v || list_any (λ e. gives_latest h v e.what) l.events);
+          ≡ (contains nat_cmp l.fn.versions v || list_any (λ e. gives_latest h v e.what) l.events);
     }

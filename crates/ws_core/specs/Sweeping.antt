@@ -1,0 +1,23 @@
+-- What is taken out of the log and out of the renewals (own).
+use Rattle.std.specs.Prelude.{ℕ, List}
+use Rattle.ws_model.specs.declared.event.Event.{Event}
+use Rattle.ws_model.specs.Legal.{Legal}
+use Rattle.ws_tries.specs.Rows.{Rows as TryRows}
+use Rattle.ws_tries.specs.Stands.{HaveRooms}
+use Rattle.ws_kept.specs.Stands.{AreRenewed, IsLogged}
+use Rattle.ws_ledger.specs.Rows.{Rows as LedgerRows}
+use Rattle.ws_ledger.specs.Stands.{StandsFor as LedgerStands}
+
+-- At t the ledger stands for the legal history, and the pairs that a compaction would keep have rooms.
+pub record AreHeld (h : List Event) (t : ℕ) (ledger : LedgerRows) (tries : TryRows) : Type 0 where
+  pub legal : Legal h
+  pub stands : LedgerStands h t ledger
+  pub rooms : HaveRooms h t tries
+
+-- the log lacks only what no compaction from t on keeps, if it did so before
+abbrev pub StaysLogged : ℕ → LedgerRows → TryRows → List Event → List Event → Type 0
+StaysLogged t ledger tries old new = (h : List Event) → AreHeld h t ledger tries → IsLogged h t old → IsLogged h t new
+
+-- and so do the renewals
+abbrev pub StayRenewed : ℕ → LedgerRows → TryRows → List (ℕ × ℕ) → List (ℕ × ℕ) → Type 0
+StayRenewed t ledger tries old new = (h : List Event) → AreHeld h t ledger tries → AreRenewed h t old → AreRenewed h t new

@@ -8,8 +8,8 @@ top=$(cd "$(dirname "$0")/.." && pwd)
 room=$(mktemp -d)
 trap 'rm -r "$room"' EXIT
 
-(cd "$top/crates/bench_core" && rt run) > "$room/build.log" 2>&1 || { cat "$room/build.log"; exit 1; }
-ours=$top/crates/bench_core/out/bench_core
+"$top/bench/build.sh" bench_core "$room"
+ours=$room/bench_core
 
 for _ in 1 2 3 4 5; do "$ours" 1000 10000 100000; done > "$room/rows"
 

@@ -1,8 +1,8 @@
-// A whole copy and a light one of a fetched version.
+// Whole copies and light ones of a fetched version and of a request.
 use std::alloc::Global;
 use std::test::Fail;
-use ws_copies::{copy_event, light_copy};
-use ws_model::{Bytes, Event, NoMemory, Version, What};
+use ws_copies::{copy_event, light_copy, lightened};
+use ws_model::{Alg, Bytes, Event, Intent, Mode, NoMemory, Version, What};
 
 // A fetched version with these four texts: topic, type, link and body.
 fn fetched(alloc: Global, texts: [&[u8]; 4]) -> Result<Event, NoMemory> {
@@ -42,6 +42,37 @@ fn whole_is_same(alloc: Global) -> Result<bool, NoMemory> {
 fn light_has_no_text(alloc: Global) -> Result<bool, NoMemory> {
     let light = light_copy(alloc, &news(alloc)?)?;
     Ok(light == fetched(alloc, [b"", b"", b"", b""])?)
+}
+
+// A request with these two keys.
+fn asked(alloc: Global, topic: &[u8], callback: &[u8]) -> Result<Event, NoMemory> {
+    let intent = Intent {
+        n: 3,
+        mode: Mode::On,
+        topic: Bytes::copy(alloc, topic)?,
+        echo: Bytes::from_vec(Vec::new(alloc)),
+        callback: Bytes::copy(alloc, callback)?,
+        secret: Bytes::from_vec(Vec::new(alloc)),
+        granted: 3_600,
+        alg: Alg::Sha256,
+    };
+    Ok(Event {
+        serial: 7,
+        t: 60,
+        what: What::Asked(intent),
+    })
+}
+
+fn light_has_no_key(alloc: Global) -> Result<bool, NoMemory> {
+    let event = asked(alloc, b"http://p.example/", b"http://c.example/")?;
+    let light = asked(alloc, b"", b"")?;
+    Ok(light_copy(alloc, &event)? == light && lightened(alloc, event) == light)
+}
+
+#[test]
+fn copies_of_a_request(rt: HostRuntime) -> Result<(), Fail> {
+    assert!(rt; light_has_no_key(rt.alloc())?);
+    Ok(())
 }
 
 #[test]

@@ -1,9 +1,9 @@
 // Copies of events.
 ghost use Rattle.std.specs.Prelude.{◌≡◌, IfOk, []};
-ghost use Rattle.ws_kept.specs.Stands.{light, light_event, light_version};
+ghost use Rattle.ws_kept.specs.Stands.{light, light_event, light_intent, light_version};
 
 use std::alloc::Global;
-use ws_model::{Bytes, Event, NoMemory, Version, What};
+use ws_model::{Bytes, Event, Intent, NoMemory, Version, What};
 
 fn copy_what(alloc: Global, what: &What) -> Result<What, NoMemory>
     ensures { IfOk result (λ w. w ≡ what.now) }
@@ -58,7 +58,7 @@ pub fn copy_event(alloc: Global, event: &Event) -> Result<Event, NoMemory>
     })
 }
 
-// No texts and no body.
+// No text and no body.
 fn nothing(alloc: Global) -> Bytes
     ensures { result ≡ [] }
 {
@@ -78,17 +78,55 @@ fn light_version(alloc: Global, version: &Version) -> Version
     }
 }
 
+fn light_intent(alloc: Global, intent: &Intent) -> Intent
+    ensures { result ≡ light_intent intent.now }
+{
+    Intent {
+        n: intent.n,
+        mode: intent.mode,
+        topic: nothing(alloc),
+        echo: nothing(alloc),
+        callback: nothing(alloc),
+        secret: nothing(alloc),
+        granted: intent.granted,
+        alg: intent.alg,
+    }
+}
+
+fn lightened_what(alloc: Global, what: What) -> What
+    ensures { result ≡ light what }
+{
+    match what {
+        What::Asked(intent) => What::Asked(light_intent(alloc, &intent)),
+        What::Fetched(version) => What::Fetched(light_version(alloc, &version)),
+        other => other,
+    }
+}
+
+/// The event without the texts of what was asked for, and without the texts and the body of what was fetched.
+/// It takes no memory.
+pub fn lightened(alloc: Global, event: Event) -> Event
+    ensures { result ≡ light_event event }
+{
+    Event {
+        serial: event.serial,
+        t: event.t,
+        what: lightened_what(alloc, event.what),
+    }
+}
+
 fn light_what(alloc: Global, what: &What) -> Result<What, NoMemory>
     ensures { IfOk result (λ w. w ≡ light what.now) }
 {
     match what {
+        What::Asked(intent) => Ok(What::Asked(light_intent(alloc, intent))),
         What::Fetched(version) => Ok(What::Fetched(light_version(alloc, version))),
         other => copy_what(alloc, other),
     }
 }
 
-/// A copy of an event in which a fetched version has its numbers alone, without its texts and its body:
-/// of these nothing is copied. It fails only for want of memory.
+/// A copy of an event in which what was asked for and what was fetched have no texts and no body: of these
+/// nothing is copied. It fails only for want of memory.
 pub fn light_copy(alloc: Global, event: &Event) -> Result<Event, NoMemory>
     ensures { IfOk result (λ e. e ≡ light_event event.now) }
 {

@@ -3,4 +3,4 @@
 
 mod copies;
 
-pub use copies::{copy_event, light_copy};
+pub use copies::{copy_event, light_copy, lightened};

@@ -18,6 +18,7 @@ use Rattle.ws_fate.specs.Rows.{Rows as FateRows}
 use Rattle.ws_tries.specs.Rows.{Rows as TryRows, tries_at}
 use Rattle.ws_core_tables.specs.Passing.{AreUnexpired, TakesLease}
 use Rattle.ws_core_tables.proofs.Reasons.{time_small}
+use Rattle.ws_kept.specs.declared.renewal.Renewal.{Renewal}
 use Rattle.ws_ledger.specs.Rows.{Rows as LedgerRows}
 use Rattle.ws_ledger.specs.Stands.{StandsFor as LedgerStands}
 use Rattle.ws_core.specs.declared.giving_back.Touched.TheVariants.{Lease}
@@ -59,7 +60,7 @@ pub record SoFar (t : ℕ) (ledger : LedgerRows) (tries : TryRows) (later : Ledg
   pub stands : Passes t ledger tries later left
   pub none : StayGone tries left
   pub fates : later.fates ≡ ledger.fates
-  pub gone : (h log : List Event) (renewals : List (ℕ × ℕ)) → StandsFor h t (record { ledger = ledger; log = log; renewals = renewals; tries = tries }) → Legal h → (n : ℕ) → IsGone h t ledger.fates n
+  pub gone : (h log : List Event) (renewals : List Renewal) → StandsFor h t (record { ledger = ledger; log = log; renewals = renewals; tries = tries }) → Legal h → (n : ℕ) → IsGone h t ledger.fates n
       → (lease_at n later.tables.leases ≡ lease_at n ledger.tables.leases) ⊎ ((v : ℕ) → tries_at v n left ≡ None)
 
 pub at_first : (t : ℕ) (ledger : LedgerRows) (tries : TryRows) → SoFar t ledger tries ledger tries
@@ -74,7 +75,7 @@ module _ (t m : ℕ) (ledger : LedgerRows) (tries : TryRows) (later : LedgerRows
   all_fates : last.fates ≡ ledger.fates
   all_fates = fates ∙ so_far.fates
 
-  module _ (h log : List Event) (renewals : List (ℕ × ℕ)) (s : StandsFor h t (record { ledger = ledger; log = log; renewals = renewals; tries = tries })) (l : Legal h) where
+  module _ (h log : List Event) (renewals : List Renewal) (s : StandsFor h t (record { ledger = ledger; log = log; renewals = renewals; tries = tries })) (l : Legal h) where
     -- with the lease taken out of the tables, and its rooms still there
     abbrev mid : Rows
     mid = record { ledger = last; log = log; renewals = renewals; tries = left }

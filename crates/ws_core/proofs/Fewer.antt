@@ -1,6 +1,6 @@
 -- What no compaction would keep before an event, none keeps after it: of the log, and of the renewals.
-use Rattle.std.proofs.Common.{◌≡◌, ℕ, ◌≤◌, Bool, true, false, cond, not, ◌&&◌, ◌||◌, List, [], ◌∷◌, ◌++◌, refl, ap, sym, ◌∙◌, subst, inl, inr}
-use Rattle.std.specs.Prelude.{filter, find, is_none, map, reverse, Option, Some, None}
+use Rattle.std.proofs.Common.{◌≡◌, ℕ, ◌≤◌, true, not, ◌||◌, List, [], ◌∷◌, ◌++◌, refl, ap, sym, ◌∙◌, subst, inl, inr}
+use Rattle.std.specs.Prelude.{filter, find, is_none, reverse, Option, Some, None}
 use Rattle.std.specs.List.{AllByRecursion}
 use Rattle.std.proofs.lemmas.Bool.{or_cases, or_left, or_right}
 use Rattle.std.proofs.lemmas.List.{append_assoc, reverse-append}
@@ -19,7 +19,8 @@ use Rattle.ws_laws.proofs.ListLaws.{all_append, all_filter, all_find, all_from, 
 use Rattle.ws_compaction.proofs.Dropped.{drops_lease, drops_lease_later, either_more}
 use Rattle.ws_compaction.proofs.DroppedEvents.{drops_event, drops_event_later}
 use Rattle.ws_tries.specs.Stands.{is_any_push}
-use Rattle.ws_kept.specs.Stands.{AreRenewed, IsLogged, is_needed, is_tally, light, light_event, log_of, other_events, renewals, replaces, with_old}
+use Rattle.ws_kept.specs.declared.renewal.Renewal.{Renewal}
+use Rattle.ws_kept.specs.Stands.{IsLogged, is_needed, is_tally, light, light_event, log_of, other_events, renewals, replaces, with_old}
 use Rattle.ws_kept.proofs.Part.{part_of_fewer}
 
 -- ---- lists
@@ -85,8 +86,8 @@ live_confirmed : (h : List Event) (t : ℕ) → AllByRecursion (IsOfConfirmed h)
 live_confirmed h t = all_filter (IsOfConfirmed h) (λ (l : Lease). is_none (lease_end h l t)) (leases h) (leases_confirmed h)
 
 -- the lease that a new one replaces was confirmed
-abbrev OldIsConfirmed : List Event → ℕ × ℕ → Type 0
-OldIsConfirmed h r = has (is_confirmed r.1) h ≡ true
+abbrev OldIsConfirmed : List Event → Renewal → Type 0
+OldIsConfirmed h r = has (is_confirmed r.replaced.n) h ≡ true
 
 old_confirmed : (h : List Event) (t : ℕ) (ls : List Lease) → AllByRecursion (OldIsConfirmed h) (replaces (live h t) ls)
 old_confirmed h t [] = tt
@@ -99,15 +100,15 @@ old_confirmed h t (l ∷ ls) = by (find (λ m. same_pair l.intent m.intent) (liv
 all_old_confirmed : (h : List Event) → AllByRecursion (OldIsConfirmed h) (renewals h)
 all_old_confirmed [] = tt
 all_old_confirmed (e ∷ h) =
-    all_weaker (OldIsConfirmed h) (OldIsConfirmed (e ∷ h)) (λ r k. or_right (is_confirmed r.1 e.what) _ k) (replaces (live h e.t) (lease_of e.what (confirmed_intent e.what h)) ++ renewals h)
+    all_weaker (OldIsConfirmed h) (OldIsConfirmed (e ∷ h)) (λ r k. or_right (is_confirmed r.replaced.n e.what) _ k) (replaces (live h e.t) (lease_of e.what (confirmed_intent e.what h)) ++ renewals h)
     (all_append (OldIsConfirmed h) (replaces (live h e.t) (lease_of e.what (confirmed_intent e.what h))) (renewals h) (old_confirmed h e.t (lease_of e.what (confirmed_intent e.what h))) (all_old_confirmed h))
 
 pub renewed_before : (e : Event) (h : List Event) (since : ℕ) → Legal (e ∷ h) → since ≤ e.t
-    → AllByRecursion (λ r. member r.1 (kept_leases (e ∷ h) e.t) ≡ true → member r.1 (kept_leases h since) ≡ true) (reverse (renewals h))
+    → AllByRecursion (λ r. member r.replaced.n (kept_leases (e ∷ h) e.t) ≡ true → member r.replaced.n (kept_leases h since) ≡ true) (reverse (renewals h))
 renewed_before e h since l le =
-    all_reverse (λ r. member r.1 (kept_leases (e ∷ h) e.t) ≡ true → member r.1 (kept_leases h since) ≡ true) (renewals h)
-    (all_weaker (OldIsConfirmed h) (λ r. member r.1 (kept_leases (e ∷ h) e.t) ≡ true → member r.1 (kept_leases h since) ≡ true)
-    (λ r confirmed k. drops_lease_later h since e.t r.1 l.0 le (drops_lease h e r.1 l confirmed k)) (renewals h) (all_old_confirmed h))
+    all_reverse (λ r. member r.replaced.n (kept_leases (e ∷ h) e.t) ≡ true → member r.replaced.n (kept_leases h since) ≡ true) (renewals h)
+    (all_weaker (OldIsConfirmed h) (λ r. member r.replaced.n (kept_leases (e ∷ h) e.t) ≡ true → member r.replaced.n (kept_leases h since) ≡ true)
+    (λ r confirmed k. drops_lease_later h since e.t r.replaced.n l.0 le (drops_lease h e r.replaced.n l confirmed k)) (renewals h) (all_old_confirmed h))
 
 -- ---- at a later moment
 

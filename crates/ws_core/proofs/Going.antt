@@ -1,6 +1,6 @@
 -- The core over an event, and over several that make and end no pair.
 use Rattle.std.proofs.Common.{◌≡◌, ℕ, suc, ◌+◌, ◌≤◌, ◌<◌, Bool, true, false, cond, List, [], ◌∷◌, ◌++◌, refl, ap, sym, ◌∙◌, subst, length, arith}
-use Rattle.std.specs.Prelude.{bytes_eq, filter, find, is_some, reverse, Option, Some, None, ◌==◌}
+use Rattle.std.specs.Prelude.{bytes_eq, filter, find, is_some, map, Option, Some, None, ◌==◌}
 use Rattle.std.specs.List.{list_all, list_any}
 use Rattle.std.specs.Option.{option_map}
 use Rattle.std.proofs.lemmas.Bool.{and_parts, false≢true}
@@ -21,17 +21,18 @@ use Rattle.ws_compaction.proofs.Dropped.{drops_lease_later, drops_version_later}
 use Rattle.ws_tries.specs.declared.room.Try.{Try}
 use Rattle.ws_tries.specs.Rows.{Rows as TryRows, is_listed, tries_at}
 use Rattle.ws_tries.specs.Stands.{Adds, HaveRooms, StandsFor as TriesStand, is_any_push}
+use Rattle.ws_kept.specs.declared.renewal.Renewal.{Renewal}
 use Rattle.ws_kept.specs.Finding.{is_latest}
 use Rattle.ws_kept.specs.Stands.{AreRenewed, IsLogged, light_event}
 use Rattle.ws_core_tables.specs.Committing.{committed, numbered}
-use Rattle.ws_ledger.specs.Births.{AreBirths, FindsBirths, FindsRenewal, makes_pairs}
+use Rattle.ws_ledger.specs.Births.{AreBirths, FindsBirths, makes_pairs}
 use Rattle.ws_ledger.specs.Committing.{AllGoOn as LedgerAllGoOn, are_quiet}
 use Rattle.ws_ledger.specs.Rows.{Rows as LedgerRows}
 use Rattle.ws_ledger.specs.Stands.{GoesOn as LedgerGoesOn, StandsFor as LedgerStands, kept}
 use Rattle.ws_ledger.proofs.NewPairs.{nothing_born}
 use Rattle.ws_ledger.proofs.Together.{legal_past}
 use Rattle.ws_core.specs.Committing.{AllGoOn}
-use Rattle.ws_core.specs.Renewed.{listed}
+use Rattle.ws_core.specs.Renewed.{FindsOld, listed}
 use Rattle.ws_core.specs.Rows.{Rows}
 use Rattle.ws_core.specs.Past.{IsPast}
 use Rattle.ws_core.specs.Stands.{StandsFor}
@@ -75,8 +76,8 @@ still_there true o k = refl
 still_there false o k = k
 
 pub other_goes :
-    (e : Event) (births : List (ℕ × ℕ)) (found : Option (ℕ × ℕ)) (old new : Rows) → is_any_push e.what ≡ false → LedgerGoesOn e old.ledger new.ledger
-    → FindsBirths e old.ledger births → FindsRenewal e old.ledger found
+    (e : Event) (births : List (ℕ × ℕ)) (found : Option Renewal) (old new : Rows) → is_any_push e.what ≡ false → LedgerGoesOn e old.ledger new.ledger
+    → FindsBirths e old.ledger births → FindsOld e old.ledger found
     → new.log ≡ old.log ++ light_event e ∷ [] → new.renewals ≡ old.renewals ++ listed found
     → ((v n : ℕ) → tries_at v n new.tries ≡ cond (is_listed v n births) (Some []) (tries_at v n old.tries)) → HoldsOn e old new
 other_goes e births found old new other goes finds renews log renewed look h since s l le =
@@ -150,13 +151,13 @@ beside_all t (w ∷ ws) h since rows l le q b =
     beside_all t ws (e ∷ h) t rows l (omega arith) parts.1 (beside_quiet e h since rows (legal_past t ws (e ∷ h) l) le parts.0 b)
 
 logged_all : (t : ℕ) (whats : List What) (h : List Event) (since : ℕ) (log : List Event) → Legal (committed t whats h) → since ≤ t → are_quiet whats ≡ true → IsLogged h since log
-    → IsLogged (committed t whats h) t (log ++ numbered t whats h)
+    → IsLogged (committed t whats h) t (log ++ map light_event (numbered t whats h))
 logged_all t [] h since log l le q logged = subst (IsLogged h t) (sym (append-nil log)) (logged_later h since t log l le logged)
 logged_all t (w ∷ ws) h since log l le q logged =
     let e : Event = record { serial = suc (serial h); t = t; what = w } in
     let parts = and_parts (is_quiet w) (list_all is_quiet ws) q in
-    subst (IsLogged (committed t ws (e ∷ h)) t) (append_assoc log (e ∷ []) (numbered t ws (e ∷ h)))
-    (logged_all t ws (e ∷ h) t (log ++ e ∷ []) l (omega arith) parts.1 (logged_quiet e h since log (legal_past t ws (e ∷ h) l) le parts.0 logged))
+    subst (IsLogged (committed t ws (e ∷ h)) t) (append_assoc log (light_event e ∷ []) (map light_event (numbered t ws (e ∷ h))))
+    (logged_all t ws (e ∷ h) t (log ++ light_event e ∷ []) l (omega arith) parts.1 (logged_quiet e h since log (legal_past t ws (e ∷ h) l) le parts.0 logged))
 
 -- no version is past afterwards that wasn't
 same_latest : (v : ℕ) (e : Event) (h : List Event) → is_quiet e.what ≡ true → is_latest (e ∷ h) v ≡ is_latest h v
@@ -193,13 +194,13 @@ past_before t whats h since v old new l le quiet s after past =
 pub all_go_on :
     (t : ℕ) (whats : List What) (events : List Event) (old new : Rows) → are_quiet whats ≡ true → LedgerAllGoOn t whats old.ledger new.ledger
     → ((h : List Event) (since : ℕ) → StandsFor h since old → events ≡ numbered t whats h)
-    → new.log ≡ old.log ++ events → new.renewals ≡ old.renewals → new.tries ≡ old.tries → AllGoOn t whats old new
+    → new.log ≡ old.log ++ map light_event events → new.renewals ≡ old.renewals → new.tries ≡ old.tries → AllGoOn t whats old new
 all_go_on t whats events old new quiet goes are log same_renewals same_tries h since s l le =
     let b = beside_all t whats h since old l le quiet (record { renewed = s.renewals; tries = s.tries; only = s.only; rooms = s.rooms }) in
     let after = goes h since s.ledger l le in
     record {
       ledger = after;
-      log = subst (IsLogged (committed t whats h) t) (sym (log ∙ ap (λ es. old.log ++ es) (are h since s))) (logged_all t whats h since old.log l le quiet s.log);
+      log = subst (IsLogged (committed t whats h) t) (sym (log ∙ ap (λ es. old.log ++ map light_event es) (are h since s))) (logged_all t whats h since old.log l le quiet s.log);
       renewals = subst (AreRenewed (committed t whats h) t) (sym same_renewals) b.renewed;
       tries = subst (TriesStand (committed t whats h)) (sym same_tries) b.tries;
       only = subst (λ (rows : TryRows). (v n : ℕ) → pair_of (committed t whats h) v n ≡ None → tries_at v n rows ≡ None) (sym same_tries) b.only;

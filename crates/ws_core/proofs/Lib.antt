@@ -1,7 +1,8 @@
 pub mod Following
 pub mod Holding
 pub mod Past
-pub mod Rooms
+pub mod Replacing
+mod Rooms
 pub mod Log
 pub mod Going
 pub mod SameRooms

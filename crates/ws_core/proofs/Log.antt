@@ -1,7 +1,6 @@
 -- The log and the renewals of a history, over an event.
 use Rattle.std.proofs.Common.{◌≡◌, ℕ, ◌≤◌, true, false, cond, not, List, [], ◌∷◌, ◌++◌, refl, ap, sym, ◌∙◌, subst}
-use Rattle.std.specs.Prelude.{find, filter, map, reverse, Option, Some, None}
-use Rattle.std.specs.Option.{option_map}
+use Rattle.std.specs.Prelude.{filter, map, reverse, Option, Some, None}
 use Rattle.std.proofs.lemmas.List.{append-nil, map-append, reverse-append}
 use Rattle.std.proofs.lemmas.Bool.{false≢true}
 use mathlib.Core.Logic.{∥∥₁_map}
@@ -9,17 +8,15 @@ use Rattle.ws_model.specs.declared.event.Event.{Event}
 use Rattle.ws_model.specs.declared.event.How.{How}
 use Rattle.ws_model.specs.declared.event.What.{What}
 use Rattle.ws_model.specs.declared.event.What.TheVariants.{Asked, Confirmed, Declined, Unheard, Barred, Noticed, Pinged, Fetched, Same, Unfetched, Pushed, Tally, Revoked}
-use Rattle.ws_model.specs.declared.lease.Lease.{Lease}
-use Rattle.ws_model.specs.Intents.{same_pair}
 use Rattle.ws_model.specs.Keep.{kept_leases, member}
 use Rattle.ws_model.specs.Leases.{confirmed_intent, lease_of, live}
 use Rattle.ws_model.specs.Legal.{Legal}
 use Rattle.ws_tries.specs.Stands.{is_any_push}
 use Rattle.ws_fate.specs.Stands.{is_quiet}
+use Rattle.ws_kept.specs.declared.renewal.Renewal.{Renewal}
 use Rattle.ws_kept.specs.Part.{IsPart}
-use Rattle.ws_kept.specs.Stands.{AreRenewed, IsLogged, is_needed, light, light_event, log_of, renewals, replaces, with_old}
+use Rattle.ws_kept.specs.Stands.{AreRenewed, IsLogged, is_needed, light_event, log_of, renewals, replaces}
 use Rattle.ws_kept.proofs.Part.{part_append, part_of_fewer}
-use Rattle.ws_ledger.specs.Births.{renewal_of}
 use Rattle.ws_core.specs.Renewed.{listed}
 use Rattle.ws_core.proofs.Fewer.{needed_before, renewed_before}
 
@@ -56,44 +53,36 @@ module _ (e : Event) (h : List Event) (since : ℕ) (log : List Event) (l : Lega
 
 -- ---- the renewals
 
-replaced : (live ls : List Lease) → replaces live ls ≡ listed (renewal_of live ls)
-replaced live [] = refl
-replaced live (l ∷ ls) = by (find (λ m. same_pair l.intent m.intent) live)
-  where
-    by : (o : Option Lease) → with_old l.intent.n o ≡ listed (option_map {U = ℕ × ℕ} (λ m. (l.intent.n, m.intent.n)) o)
-    by None = refl
-    by (Some m) = refl
-
 turned : {X : Type 0} (o : Option X) → reverse (listed o) ≡ listed o
 turned None = refl
 turned (Some x) = refl
 
-renewals_after : (e : Event) (h : List Event) (found : Option (ℕ × ℕ)) → found ≡ renewal_of (live h e.t) (lease_of e.what (confirmed_intent e.what h)) → reverse (renewals (e ∷ h)) ≡ reverse (renewals h) ++ listed found
+renewals_after : (e : Event) (h : List Event) (found : Option Renewal) → listed found ≡ replaces (live h e.t) (lease_of e.what (confirmed_intent e.what h)) → reverse (renewals (e ∷ h)) ≡ reverse (renewals h) ++ listed found
 renewals_after e h found is =
     reverse-append (replaces (live h e.t) (lease_of e.what (confirmed_intent e.what h))) (renewals h)
-    ∙ ap (λ rs. reverse (renewals h) ++ reverse rs) (replaced (live h e.t) (lease_of e.what (confirmed_intent e.what h)) ∙ ap listed (sym is))
+    ∙ ap (λ rs. reverse (renewals h) ++ reverse rs) (sym is)
     ∙ ap (λ rs. reverse (renewals h) ++ rs) (turned found)
 
 -- a push renews nothing
 renewals_pushed : (e : Event) (h : List Event) (v n : ℕ) (how : How) → e.what ≡ Pushed v n how → renewals (e ∷ h) ≡ renewals h
 renewals_pushed e h v n how kind = ap (λ w. replaces (live h e.t) (lease_of w (confirmed_intent w h)) ++ renewals h) kind
 
-module _ (e : Event) (h : List Event) (since : ℕ) (rows : List (ℕ × ℕ)) (l : Legal (e ∷ h)) (le : since ≤ e.t) (renewed : AreRenewed h since rows) where
-  still_renewed : ∥ IsPart (λ r. member r.1 (kept_leases (e ∷ h) e.t) ≡ true) rows (reverse (renewals h)) ∥₁
-  still_renewed = ∥∥₁_map renewed (part_of_fewer (λ r. member r.1 (kept_leases h since) ≡ true) (λ r. member r.1 (kept_leases (e ∷ h) e.t) ≡ true) (renewed_before e h since l le))
+module _ (e : Event) (h : List Event) (since : ℕ) (rows : List Renewal) (l : Legal (e ∷ h)) (le : since ≤ e.t) (renewed : AreRenewed h since rows) where
+  still_renewed : ∥ IsPart (λ r. member r.replaced.n (kept_leases (e ∷ h) e.t) ≡ true) rows (reverse (renewals h)) ∥₁
+  still_renewed = ∥∥₁_map renewed (part_of_fewer (λ r. member r.replaced.n (kept_leases h since) ≡ true) (λ r. member r.replaced.n (kept_leases (e ∷ h) e.t) ≡ true) (renewed_before e h since l le))
 
   -- where the event makes no lease
   pub renewed_same : renewals (e ∷ h) ≡ renewals h → AreRenewed (e ∷ h) e.t rows
-  renewed_same same = subst (λ rs. ∥ IsPart (λ r. member r.1 (kept_leases (e ∷ h) e.t) ≡ true) rows (reverse rs) ∥₁) (sym same) still_renewed
+  renewed_same same = subst (λ rs. ∥ IsPart (λ r. member r.replaced.n (kept_leases (e ∷ h) e.t) ≡ true) rows (reverse rs) ∥₁) (sym same) still_renewed
 
-  pub renewed_after : (found : Option (ℕ × ℕ)) → found ≡ renewal_of (live h e.t) (lease_of e.what (confirmed_intent e.what h)) → AreRenewed (e ∷ h) e.t (rows ++ listed found)
-  renewed_after found is = subst (λ all. ∥ IsPart (λ r. member r.1 (kept_leases (e ∷ h) e.t) ≡ true) (rows ++ listed found) all ∥₁) (sym (renewals_after e h found is)) (by found)
+  pub renewed_after : (found : Option Renewal) → listed found ≡ replaces (live h e.t) (lease_of e.what (confirmed_intent e.what h)) → AreRenewed (e ∷ h) e.t (rows ++ listed found)
+  renewed_after found is = subst (λ all. ∥ IsPart (λ r. member r.replaced.n (kept_leases (e ∷ h) e.t) ≡ true) (rows ++ listed found) all ∥₁) (sym (renewals_after e h found is)) (by found)
     where
-      by : (o : Option (ℕ × ℕ)) → ∥ IsPart (λ r. member r.1 (kept_leases (e ∷ h) e.t) ≡ true) (rows ++ listed o) (reverse (renewals h) ++ listed o) ∥₁
+      by : (o : Option Renewal) → ∥ IsPart (λ r. member r.replaced.n (kept_leases (e ∷ h) e.t) ≡ true) (rows ++ listed o) (reverse (renewals h) ++ listed o) ∥₁
       by None =
-          subst (λ all. ∥ IsPart (λ r. member r.1 (kept_leases (e ∷ h) e.t) ≡ true) (rows ++ []) all ∥₁) (sym (append-nil (reverse (renewals h))))
-          (subst (λ rs. ∥ IsPart (λ r. member r.1 (kept_leases (e ∷ h) e.t) ≡ true) rs (reverse (renewals h)) ∥₁) (sym (append-nil rows)) still_renewed)
-      by (Some r) = ∥∥₁_map still_renewed (part_append (λ r. member r.1 (kept_leases (e ∷ h) e.t) ≡ true) r)
+          subst (λ all. ∥ IsPart (λ r. member r.replaced.n (kept_leases (e ∷ h) e.t) ≡ true) (rows ++ []) all ∥₁) (sym (append-nil (reverse (renewals h))))
+          (subst (λ rs. ∥ IsPart (λ r. member r.replaced.n (kept_leases (e ∷ h) e.t) ≡ true) rs (reverse (renewals h)) ∥₁) (sym (append-nil rows)) still_renewed)
+      by (Some r) = ∥∥₁_map still_renewed (part_append (λ r. member r.replaced.n (kept_leases (e ∷ h) e.t) ≡ true) r)
 
   pub renewed_pushed : (v n : ℕ) (how : How) → e.what ≡ Pushed v n how → AreRenewed (e ∷ h) e.t rows
   renewed_pushed v n how kind = renewed_same (renewals_pushed e h v n how kind)
@@ -115,21 +104,6 @@ quiet_other (Unfetched topic upto why) q = refl
 quiet_other (Tally c) q = refl
 quiet_other (Revoked n reason) q = refl
 
-quiet_light : (w : What) → is_quiet w ≡ true → light w ≡ w
-quiet_light (Fetched v) q = absurd (false≢true q)
-quiet_light (Pushed v n how) q = refl
-quiet_light (Asked i) q = refl
-quiet_light (Confirmed n sent) q = refl
-quiet_light (Declined n code) q = refl
-quiet_light (Unheard n) q = refl
-quiet_light (Barred n reason) q = refl
-quiet_light (Noticed n heard) q = refl
-quiet_light (Pinged topic) q = refl
-quiet_light (Same topic upto) q = refl
-quiet_light (Unfetched topic upto why) q = refl
-quiet_light (Tally c) q = refl
-quiet_light (Revoked n reason) q = refl
-
 quiet_leases : (w : What) (h : List Event) → is_quiet w ≡ true → lease_of w (confirmed_intent w h) ≡ []
 quiet_leases (Confirmed n sent) h q = absurd (false≢true q)
 quiet_leases (Fetched v) h q = refl
@@ -148,10 +122,9 @@ quiet_leases (Revoked n reason) h q = refl
 renewals_quiet : (e : Event) (h : List Event) → is_quiet e.what ≡ true → renewals (e ∷ h) ≡ renewals h
 renewals_quiet e h q = ap (λ ls. replaces (live h e.t) ls ++ renewals h) (quiet_leases e.what h q)
 
--- it stands in the log whole, and renews nothing
-pub logged_quiet : (e : Event) (h : List Event) (since : ℕ) (log : List Event) → Legal (e ∷ h) → since ≤ e.t → is_quiet e.what ≡ true → IsLogged h since log → IsLogged (e ∷ h) e.t (log ++ e ∷ [])
-logged_quiet e h since log l le q logged =
-    subst (λ x. IsLogged (e ∷ h) e.t (log ++ x ∷ [])) (λ j. record { serial = e.serial; t = e.t; what = quiet_light e.what q j }) (logged_other e h since log l le logged (quiet_other e.what q))
+-- it stands in the log, and renews nothing
+pub logged_quiet : (e : Event) (h : List Event) (since : ℕ) (log : List Event) → Legal (e ∷ h) → since ≤ e.t → is_quiet e.what ≡ true → IsLogged h since log → IsLogged (e ∷ h) e.t (log ++ light_event e ∷ [])
+logged_quiet e h since log l le q logged = logged_other e h since log l le logged (quiet_other e.what q)
 
-pub renewed_quiet : (e : Event) (h : List Event) (since : ℕ) (rows : List (ℕ × ℕ)) → Legal (e ∷ h) → since ≤ e.t → is_quiet e.what ≡ true → AreRenewed h since rows → AreRenewed (e ∷ h) e.t rows
+pub renewed_quiet : (e : Event) (h : List Event) (since : ℕ) (rows : List Renewal) → Legal (e ∷ h) → since ≤ e.t → is_quiet e.what ≡ true → AreRenewed h since rows → AreRenewed (e ∷ h) e.t rows
 renewed_quiet e h since rows l le q renewed = renewed_same e h since rows l le renewed (renewals_quiet e h q)

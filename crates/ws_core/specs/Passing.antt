@@ -6,6 +6,7 @@ use Rattle.ws_model.specs.Leases.{expiry}
 use Rattle.ws_model.specs.Legal.{Legal}
 use Rattle.ws_lease.specs.Table.{lease_at}
 use Rattle.ws_tries.specs.Rows.{Rows as TryRows, tries_at}
+use Rattle.ws_kept.specs.declared.renewal.Renewal.{Renewal}
 use Rattle.ws_core_tables.specs.Passing.{AreUnexpired}
 use Rattle.ws_ledger.specs.Rows.{Rows as LedgerRows}
 use Rattle.ws_core.specs.GivenBack.{IsGone}
@@ -15,7 +16,7 @@ use Rattle.ws_core.specs.Stands.{StandsFor}
 -- what stands for a history from t on still does
 abbrev pub Passes : ℕ → LedgerRows → TryRows → LedgerRows → TryRows → Type 0
 Passes t ledger tries later left =
-    (h log : List Event) (renewals : List (ℕ × ℕ))
+    (h log : List Event) (renewals : List Renewal)
     → StandsFor h t (record { ledger = ledger; log = log; renewals = renewals; tries = tries }) → Legal h → StandsFor h t (record { ledger = later; log = log; renewals = renewals; tries = left })
 
 -- no pair gets a room
@@ -29,7 +30,7 @@ HasExpired t n ledger = IsSomeAnd (lease_at n ledger.tables.leases) (λ l. expir
 -- the pairs of held leases that have expired by t have no rooms, where no compaction at t would keep the lease
 abbrev pub ExpiredAreGone : ℕ → LedgerRows → TryRows → TryRows → Type 0
 ExpiredAreGone t ledger tries left =
-    (h log : List Event) (renewals : List (ℕ × ℕ))
+    (h log : List Event) (renewals : List Renewal)
     → StandsFor h t (record { ledger = ledger; log = log; renewals = renewals; tries = tries }) → Legal h → (v n : ℕ) → HasExpired t n ledger → IsGone h t ledger.fates n → tries_at v n left ≡ None
 
 -- the core holds no lease that has expired by t

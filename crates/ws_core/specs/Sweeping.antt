@@ -4,6 +4,7 @@ use Rattle.ws_model.specs.declared.event.Event.{Event}
 use Rattle.ws_model.specs.Legal.{Legal}
 use Rattle.ws_tries.specs.Rows.{Rows as TryRows}
 use Rattle.ws_tries.specs.Stands.{HaveRooms}
+use Rattle.ws_kept.specs.declared.renewal.Renewal.{Renewal}
 use Rattle.ws_kept.specs.Stands.{AreRenewed, IsLogged}
 use Rattle.ws_ledger.specs.Rows.{Rows as LedgerRows}
 use Rattle.ws_ledger.specs.Stands.{StandsFor as LedgerStands}
@@ -19,5 +20,5 @@ abbrev pub StaysLogged : ℕ → LedgerRows → TryRows → List Event → List 
 StaysLogged t ledger tries old new = (h : List Event) → AreHeld h t ledger tries → IsLogged h t old → IsLogged h t new
 
 -- and so do the renewals
-abbrev pub StayRenewed : ℕ → LedgerRows → TryRows → List (ℕ × ℕ) → List (ℕ × ℕ) → Type 0
+abbrev pub StayRenewed : ℕ → LedgerRows → TryRows → List Renewal → List Renewal → Type 0
 StayRenewed t ledger tries old new = (h : List Event) → AreHeld h t ledger tries → AreRenewed h t old → AreRenewed h t new

@@ -13,7 +13,9 @@ use crate::Core;
 use crate::births::apply_with_rooms;
 use crate::giving_back::{give_back, give_back_pairs, touched_by, touched_by_push};
 use crate::passing::let_go;
+use crate::renewing::renewal_by;
 use ws_copies::light_copy;
+use ws_kept::Renewal;
 use ws_model::{Event, How, NoMemory, What};
 use ws_sweep::Sweep;
 use ws_tries::Try;
@@ -79,7 +81,7 @@ impl Core {
     {
         let entry = light_copy(self.alloc, event)?;
         let births = self.ledger.births(event)?;
-        let renewal = self.ledger.renewal(event);
+        let renewal = renewal_by(self.alloc, &self.ledger, event)?;
         let touched = touched_by(&self.ledger, event);
         self.log.reserve(1)?;
         self.renewals.reserve(1)?;
@@ -95,7 +97,7 @@ impl Core {
 }
 
 /// Adds a renewal behind the others, where there is one. It takes no memory.
-fn add_reserved(renewals: &mut Sweep<(u64, u64)>, renewal: Option<(u64, u64)>)
+fn add_reserved(renewals: &mut Sweep<Renewal>, renewal: Option<Renewal>)
     requires { 0 < renewals.old.room }
     ensures { members renewals.new ≡ members renewals.old ++ listed renewal }
 {

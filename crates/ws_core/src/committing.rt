@@ -1,11 +1,14 @@
 // What one request makes, applied to the core together or not at all.
-ghost use Rattle.std.specs.Prelude.{◌≡◌, ◌≤◌, ◌++◌, OnOk, OnErr, true};
+ghost use Rattle.std.specs.Prelude.{◌≡◌, ◌≤◌, ◌++◌, OnOk, OnErr, map, true};
 ghost use Rattle.std.specs.Vec.{vec_len};
 ghost use Rattle.ws_core_tables.specs.Committing.{GoTogether};
+ghost use Rattle.ws_kept.specs.Stands.{light_event};
 ghost use Rattle.ws_core.specs.Committing.{AllGoOn, CanHappen, are_quiet};
 ghost use Rattle.ws_sweep.specs.Rows.{members};
 
 use crate::Core;
+use std::alloc::Global;
+use ws_copies::lightened;
 use ws_model::{Event, NoMemory, What};
 use ws_sweep::Sweep;
 
@@ -23,18 +26,18 @@ impl Core {
         let added = whats.len();
         self.log.reserve(added)?;
         let events = self.ledger.commit(t, whats)?;
-        add_all_reserved(&mut self.log, events);
+        add_all_reserved(self.alloc, &mut self.log, events);
         self.sweep(t, added);
         Ok(())
     }
 }
 
-/// Adds events behind the others. It takes no memory.
-fn add_all_reserved(log: &mut Sweep<Event>, events: Vec<Event>)
+/// Adds events behind the others, without the texts of what was asked for. It takes no memory.
+fn add_all_reserved(alloc: Global, log: &mut Sweep<Event>, events: Vec<Event>)
     requires { vec_len events ≤ log.old.room }
-    ensures { members log.new ≡ members log.old ++ events.items }
+    ensures { members log.new ≡ members log.old ++ map light_event events.items }
 {
     for event in events {
-        log.push_reserved(event);
+        log.push_reserved(lightened(alloc, event));
     }
 }

@@ -34,7 +34,7 @@ impl Core {
             &self.renewals,
             t,
         )?;
-        let mut events = kept_events(self.alloc, tables, &kept, &self.log)?;
+        let mut events = kept_events(self.alloc, tables, &kept, &self.log, &self.renewals, t)?;
         let mut pushes = kept_pushes(self.alloc, tries, &kept)?;
         events.append(&mut pushes)?;
         let mut list = Vec::new(self.alloc);

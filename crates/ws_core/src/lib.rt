@@ -12,6 +12,7 @@ mod giving_back;
 mod keeping;
 mod looking;
 mod passing;
+mod renewing;
 mod settling;
 mod sweeping;
 #[cfg(test)]

@@ -13,6 +13,7 @@ ghost use Rattle.ws_core.specs.Sweeping.{AreHeld, StayRenewed, StaysLogged};
 
 use crate::Core;
 use crate::giving_back::{is_past, is_without_heirs};
+use ws_kept::Renewal;
 use ws_ledger::Ledger;
 use ws_model::{Event, What};
 use ws_sift::{is_awaited, is_denied, is_kept_miss, is_kept_ping, is_pending};
@@ -70,12 +71,14 @@ fn look_at_log(ledger: &Ledger, tries: &Tries, log: &mut Sweep<Event>, t: u64)
 }
 
 /// Looks at the next renewal, and takes it out where no compaction keeps the lease that was replaced.
-fn look_at_renewals(ledger: &Ledger, tries: &Tries, renewals: &mut Sweep<(u64, u64)>, t: u64)
+fn look_at_renewals(ledger: &Ledger, tries: &Tries, renewals: &mut Sweep<Renewal>, t: u64)
     ensures { StayRenewed t ledger.now tries.now (members renewals.old) (members renewals.new) }
 {
     match renewals.next() {
         None => renewals.begin_again(),
-        Some(renewal) if is_free_lease(ledger, tries, renewal.1, t) => renewals.take_next(),
+        Some(renewal) if is_free_lease(ledger, tries, renewal.replaced.n, t) => {
+            renewals.take_next()
+        }
         Some(_) => renewals.keep_next(),
     }
 }

@@ -5,6 +5,7 @@ ghost use Rattle.ws_core.specs.Stands.{StandsFor};
 
 use std::alloc::Global;
 use std::marker::Model;
+use ws_kept::Renewal;
 use ws_ledger::Ledger;
 use ws_model::Event;
 use ws_sweep::Sweep;
@@ -16,12 +17,12 @@ use ws_tries::Tries;
 pub struct Core {
     pub(crate) alloc: Global,
     pub(crate) ledger: Ledger,
-    /// What happened but pushes, the oldest first, without what was found that no compaction would keep. A
-    /// version is there by its number alone: its texts and its body stand in the ledger's tables, as long as
-    /// it is kept.
+    /// What happened but pushes, the oldest first, without what was found that no compaction would keep. What
+    /// was asked for and what was fetched is there by its numbers alone: its texts and its body stand in the
+    /// ledger's tables, or with the renewals, as long as it is kept.
     pub(crate) log: Sweep<Event>,
-    /// Each new lease with the lease that it replaced, the oldest first, in the same way.
-    pub(crate) renewals: Sweep<(u64, u64)>,
+    /// Each new lease with what was asked for the lease that it replaced, the oldest first, in the same way.
+    pub(crate) renewals: Sweep<Renewal>,
     pub(crate) tries: Tries,
 }
 

@@ -1,5 +1,5 @@
 // How open pairs stand, the greatest time, and the intents of owed notices and of leases.
-ghost use Rattle.std.specs.Prelude.{◌≡◌, ◌≤◌, ◌==◌, ℕ, List, find, map};
+ghost use Rattle.std.specs.Prelude.{◌≡◌, ◌≤◌, ◌<◌, ◌^◌, ◌==◌, ℕ, List, find, map};
 ghost use Rattle.std.specs.Option.{option_copied, option_map};
 ghost use Rattle.ws_model.specs.declared.event.Event.{Event};
 ghost use Rattle.ws_model.specs.Intents.{notices};
@@ -51,13 +51,21 @@ impl Tables {
         }
     }
 
+    /// The intent of a number whose lease is live at `t`, in seconds.
+    pub fn live_intent(&self, n: u64, t: u64) -> Option<&Intent>
+        requires in_time { t < 2 ^ 48 }
+        ensures stands { (h : List Event) (since : ℕ) → StandsFor h since self.now → since ≤ t → option_copied result ≡ option_map (λ l. l.intent) (find (λ l. l.intent.n == n) (live h t)) }
+    {
+        match self.leases.get(n, t) {
+            Some(lease) => Some(&lease.intent),
+            None => None,
+        }
+    }
+
     /// The intent of a number whose lease is live at the greatest time so far.
     pub fn leased_intent(&self, n: u64) -> Option<&Intent>
         ensures stands { (h : List Event) (since : ℕ) → StandsFor h since self.now → Legal h → since ≤ time h → option_copied result ≡ option_map (λ l. l.intent) (find (λ l. l.intent.n == n) (live h (time h))) }
     {
-        match self.leases.get(n, self.numbers.all.time.min(LAST_TIME)) {
-            Some(lease) => Some(&lease.intent),
-            None => None,
-        }
+        self.live_intent(n, self.numbers.all.time.min(LAST_TIME))
     }
 }

@@ -9,7 +9,7 @@ use mathlib.Core.Logic.{∥∥₁_elim}
 use Rattle.ws_model.specs.declared.event.Event.{Event}
 use Rattle.ws_model.specs.declared.event.Tally.{Tally as TallyFields}
 use Rattle.ws_model.specs.declared.event.What.{What}
-use Rattle.ws_model.specs.declared.event.What.TheVariants.{Fetched, Pushed, Tally}
+use Rattle.ws_model.specs.declared.event.What.TheVariants.{Asked, Fetched, Pushed, Tally}
 use Rattle.ws_model.specs.Account.{first_or_zero, tallies, tallies_of}
 use Rattle.ws_model.specs.Keep.{keeps}
 use Rattle.ws_model.specs.Legal.{Legal, accepts_what}
@@ -48,6 +48,7 @@ untallied e f h _ k = refl
 
 told_light : (w : What) → told (light w) ≡ told w
 told_light (Fetched v) = refl
+told_light (Asked i) = refl
 told_light _ = refl
 
 last_untold : (log : List Event) (e : Event) → told e.what ≡ none → told_first (log ++ e ∷ []) ≡ told_first log

@@ -2,7 +2,6 @@
 use Rattle.std.proofs.Common.{◌≡◌, ℕ, ◌≤◌, ◌<◌, Bool, true, false, cond, ◌&&◌, ◌||◌, List, [], ◌∷◌, ◌++◌, refl, ap, sym, ◌∙◌, subst, arith, inl, inr}
 use Rattle.std.specs.Prelude.{Option, Some, None, is_none, is_some, filter, find, ◌==◌}
 use Rattle.std.specs.List.{AllByRecursion, list_any}
-use Rattle.std.specs.Option.{option_map}
 use Rattle.std.proofs.lemmas.Bool.{and_from, and_parts, eqb-true, false≢true, ltb-true, or_cases, or_left, or_right}
 use Rattle.std.proofs.lemmas.Bool.Decides.{nat_tests}
 use Rattle.std.proofs.lemmas.List.Folds.{list_any-append}
@@ -12,35 +11,27 @@ use Rattle.ws_model.specs.declared.event.What.{What}
 use Rattle.ws_model.specs.declared.event.What.TheVariants.{Asked, Confirmed, Fetched, Pushed}
 use Rattle.ws_model.specs.declared.lease.Lease.{Lease}
 use Rattle.ws_model.specs.History.{has}
-use Rattle.ws_model.specs.Intents.{asked, intents_of, is_owed_notice, is_owed_notice_number, notices, same_pair}
+use Rattle.ws_model.specs.Intents.{asked, intents_of, is_owed_notice, is_owed_notice_number, notices}
 use Rattle.ws_model.specs.Keep.{first_kept, member, numbers}
 use Rattle.ws_model.specs.Leases.{confirmed_intent, is_confirmed, is_on, lease_by, lease_end, lease_of, leases, live}
 use Rattle.ws_model.specs.Legal.{Legal, is_allowed, is_on_one}
 use Rattle.ws_model.specs.Moment.{last_intent, last_time}
-use Rattle.ws_model.specs.Revocation.{is_lease_of, live_lease_of}
-use Rattle.ws_laws.proofs.Ended.{IsTold, both_true, leases_told}
+use Rattle.ws_laws.proofs.Ended.{both_true}
 use Rattle.ws_laws.proofs.Follow.{some_found}
 use Rattle.ws_laws.proofs.Known.{about_le, allowed, is_about, leases_confirmed}
-use Rattle.ws_laws.proofs.ListLaws.{all_append, all_filter_with, all_find, all_from, any_then, find-filter}
+use Rattle.ws_laws.proofs.ListLaws.{all_append, all_filter, all_filter_with, all_find, all_from, any_then, find-filter}
 use Rattle.ws_laws.proofs.Notices.{leases_asked}
-use Rattle.ws_laws.proofs.Paired.{found_kept, same_number}
-use Rattle.ws_laws.proofs.Topics.{bytes_same}
 use Rattle.ws_compaction.proofs.Fetches.{any_more}
 use Rattle.ws_compaction.proofs.Replaced.{any-map, member_cases, member_left, member_right}
-use Rattle.ws_lease.specs.Stands.{is_numbered}
 use Rattle.ws_lease.proofs.SortedEntries.{any_filter}
-use Rattle.ws_core_tables.specs.Stands.{is_number}
-use Rattle.ws_core_tables.proofs.Confirmation.{pair_by_number}
 use Rattle.ws_tries.specs.Stands.{is_any_push}
-use Rattle.ws_kept.specs.Finding.{gives_lease, is_leased, is_noticed}
+use Rattle.ws_compaction.specs.Least.{has_number}
+use Rattle.ws_kept.specs.Finding.{gives_lease, is_noticed}
 use Rattle.ws_kept.specs.Stands.{light, log_of}
 use Rattle.ws_kept.proofs.Lists.{any_log, both_ways, each_any}
 
 has_more : (p q : What → Bool) → ((w : What) → p w ≡ true → q w ≡ true) → (h : List Event) → has p h ≡ true → has q h ≡ true
 has_more p q f h k = any_more (λ e. p e.what) (λ e. q e.what) (λ e. f e.what) h k
-
-same_itself : (i : Intent) → same_pair i i ≡ true
-same_itself i = and_from _ _ (bytes_same i.topic) (bytes_same i.callback)
 
 -- ---- what was asked for
 
@@ -111,15 +102,8 @@ module _ (h : List Event) (t n : ℕ) (l : Legal h) (le : last_time h ≤ t) whe
 
   -- ---- from the events
 
-  live_told : (i : Intent) → (i.n == n) ≡ true → is_leased h t i ≡ true → member n (numbers (live h t)) ≡ true
-  live_told i k leased = by (live_lease_of h t i.topic i.callback) refl leased
-    where
-      by : (o : Option Lease) → live_lease_of h t i.topic i.callback ≡ o → is_number (option_map (λ (x : Lease). x.intent.n) o) i.n ≡ true → member n (numbers (live h t)) ≡ true
-      by None e m = absurd (false≢true m)
-      by (Some x) e m =
-          any-map (λ (y : Lease). y.intent.n) n (live h t)
-          ∙ (all_find (λ (y : Lease). (q : Lease → Bool) → q y ≡ true → list_any q (live h t) ≡ true) (is_lease_of i.topic i.callback) x (live h t) (each_any (live h t)) e).0
-          (λ y. y.intent.n == n) (ap (λ z. z == n) (eqb-true x.intent.n i.n m) ∙ k)
+  live_told : (i : Intent) → (i.n == n) ≡ true → has_number i.n (live h t) ≡ true → member n (numbers (live h t)) ≡ true
+  live_told i k leased = any-map (λ (y : Lease). y.intent.n) n (live h t) ∙ ap (λ m. has_number m (live h t)) (sym (eqb-true i.n n k)) ∙ leased
 
   noticed_told : has (is_confirmed n) h ≡ true → is_noticed h n ≡ true → member n (numbers (filter is_denied_lease (leases h))) ≡ true
   noticed_told confirmed k = by (is_owed_notice_number h n) refl (find (λ i. i.n == n) (asked h)) refl (sym (ap is_on_one notice_found) ∙ k)
@@ -139,7 +123,7 @@ module _ (h : List Event) (t n : ℕ) (l : Legal h) (le : last_time h ≤ t) whe
   told e had k = by e.what refl k
     where
       by : (w : What) → e.what ≡ w → gives_lease h t n w ≡ true → member n (first_kept h t) ≡ true
-      by (Asked i) same k = let a = and_parts (i.n == n) (is_leased h t i) k in member_left n (numbers (live h t)) _ (live_told i a.0 a.1)
+      by (Asked i) same k = let a = and_parts (i.n == n) (has_number i.n (live h t)) k in member_left n (numbers (live h t)) _ (live_told i a.0 a.1)
       by (Confirmed m sent) same k =
           let a = and_parts (m == n) (is_noticed h m) k in
           member_right n (numbers (live h t)) _
@@ -150,16 +134,13 @@ module _ (h : List Event) (t n : ℕ) (l : Legal h) (le : last_time h ≤ t) whe
 
   live_tells : member n (numbers (live h t)) ≡ true → has (gives_lease h t n) h ≡ true
   live_tells k =
-      any_then (λ x. (IsTold h x × (find (λ i. i.n == x.intent.n) (asked h) ≡ Some x.intent)) × (is_none (lease_end h x t) ≡ true)) (λ x. x.intent.n == n) (has (gives_lease h t n) h ≡ true)
+      let live_one : has_number n (live h t) ≡ true = sym (any-map (λ (x : Lease). x.intent.n) n (live h t)) ∙ k in
+      any_then (λ x. find (λ i. i.n == x.intent.n) (asked h) ≡ Some x.intent) (λ x. x.intent.n == n) (has (gives_lease h t n) h ≡ true)
       (λ x a e.
-      let here : find (is_numbered x.intent.n) (live h t) ≡ Some x = found_kept same_number (is_numbered x.intent.n) (λ y. is_none (lease_end h y t)) x (leases h) a.0.0 a.1 in
       asked_has (gives_lease h t n) h
-      ((all_find (λ (i : Intent). (q : Intent → Bool) → q i ≡ true → list_any q (asked h) ≡ true) (λ i. i.n == x.intent.n) x.intent (asked h) (each_any (asked h)) a.0.1).0
-      (λ i. gives_lease h t n (Asked i)) (and_from _ _ e (sym (pair_by_number h t x.intent x.intent.n x l le here) ∙ same_itself x.intent))))
-      (live h t)
-      (all_filter_with (λ x. IsTold h x × (find (λ i. i.n == x.intent.n) (asked h) ≡ Some x.intent)) (λ x. is_none (lease_end h x t)) (leases h)
-      (both_true (IsTold h) (λ x. find (λ i. i.n == x.intent.n) (asked h) ≡ Some x.intent) (leases h) (leases_told h l) (leases_asked h l)))
-      (sym (any-map (λ (x : Lease). x.intent.n) n (live h t)) ∙ k)
+      ((all_find (λ (i : Intent). (q : Intent → Bool) → q i ≡ true → list_any q (asked h) ≡ true) (λ i. i.n == x.intent.n) x.intent (asked h) (each_any (asked h)) a).0
+      (λ i. gives_lease h t n (Asked i)) (and_from _ _ e (ap (λ m. has_number m (live h t)) (eqb-true x.intent.n n e) ∙ live_one))))
+      (live h t) (all_filter (λ x. find (λ i. i.n == x.intent.n) (asked h) ≡ Some x.intent) (λ x. is_none (lease_end h x t)) (leases h) (leases_asked h l)) live_one
 
   confirmed_gives : is_noticed h n ≡ true → (w : What) → is_confirmed n w ≡ true → gives_lease h t n w ≡ true
   confirmed_gives k (Confirmed m sent) a = and_from _ _ a (subst (λ z. is_noticed h z ≡ true) (sym (eqb-true m n a)) k)
@@ -195,6 +176,7 @@ module _ (h : List Event) (t n : ℕ) (l : Legal h) (le : last_time h ≤ t) whe
 
   as_light : (w : What) → gives_lease h t n (light w) ≡ gives_lease h t n w
   as_light (Fetched v) = refl
+  as_light (Asked i) = refl
   as_light w = refl
 
   no_push : (w : What) → is_any_push w ≡ true → gives_lease h t n w ≡ false

@@ -7,7 +7,7 @@ use Rattle.std.proofs.lemmas.Bool.Decides.{nat_tests}
 use Rattle.ws_model.specs.declared.event.Event.{Event}
 use Rattle.ws_model.specs.declared.event.Version.{Version}
 use Rattle.ws_model.specs.declared.event.What.{What}
-use Rattle.ws_model.specs.declared.event.What.TheVariants.{Fetched, Pushed}
+use Rattle.ws_model.specs.declared.event.What.TheVariants.{Asked, Fetched, Pushed}
 use Rattle.ws_model.specs.History.{has}
 use Rattle.ws_model.specs.Legal.{Legal, is_allowed}
 use Rattle.ws_model.specs.Moment.{last_version}
@@ -52,6 +52,7 @@ module _ (h : List Event) (v : ℕ) where
 
   as_light : (w : What) → gives_latest h v (light w) ≡ gives_latest h v w
   as_light (Fetched x) = refl
+  as_light (Asked i) = refl
   as_light w = refl
 
   no_push : (w : What) → is_any_push w ≡ true → gives_latest h v w ≡ false

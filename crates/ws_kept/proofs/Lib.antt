@@ -8,5 +8,6 @@ mod Once
 pub mod Owed
 pub mod Part
 mod Renewed
+pub mod Replaced
 mod Rooms
 mod WentOver

@@ -32,6 +32,7 @@ use Rattle.ws_lease.proofs.Standing.{pair_turned}
 use Rattle.ws_core_tables.specs.Stands.{is_number}
 use Rattle.ws_core_tables.proofs.Confirmation.{pair_by_number}
 use Rattle.ws_core_tables.proofs.Renewal.{find_same}
+use Rattle.ws_kept.specs.declared.renewal.Renewal.{Renewal}
 use Rattle.ws_kept.specs.Finding.{with_old_ones, with_one}
 use Rattle.ws_kept.specs.Stands.{renewals, replaces, with_old}
 use Rattle.ws_kept.proofs.Once.{IsSingle, Lives, all_live, goes_is_went, legal_behind, single}
@@ -125,7 +126,7 @@ module _ (g : List Event) (t : ℕ) (x : Lease) (l : Legal g) (le : last_time g 
 -- ---- one pass
 
 -- what is added behind what is there
-pub old_append : (goes : ℕ → Bool) (kept : List ℕ) (rs ss : List (ℕ × ℕ)) → with_old_ones goes kept (rs ++ ss) ≡ with_old_ones goes (with_old_ones goes kept ss) rs
+pub old_append : (goes : ℕ → Bool) (kept : List ℕ) (rs ss : List Renewal) → with_old_ones goes kept (rs ++ ss) ≡ with_old_ones goes (with_old_ones goes kept ss) rs
 old_append goes kept [] ss = refl
 old_append goes kept (r ∷ rs) ss = ap (λ ns. with_one goes ns r) (old_append goes kept rs ss)
 
@@ -136,10 +137,10 @@ moved (x ∷ c) e g = ap (λ h. x ∷ h) (moved c e g)
 member_append : (n : ℕ) (xs ys : List ℕ) → member n (xs ++ ys) ≡ (member n xs || member n ys)
 member_append n xs ys = list_any-append (λ m. m == n) xs ys
 
-pub one_member : (goes : ℕ → Bool) (kept : List ℕ) (r : ℕ × ℕ) (n : ℕ) → member n (with_one goes kept r) ≡ (((member r.0 kept && goes r.1) && (r.1 == n)) || member n kept)
-one_member goes kept r n = by (member r.0 kept && goes r.1)
+pub one_member : (goes : ℕ → Bool) (kept : List ℕ) (r : Renewal) (n : ℕ) → member n (with_one goes kept r) ≡ (((member r.lease kept && goes r.replaced.n) && (r.replaced.n == n)) || member n kept)
+one_member goes kept r n = by (member r.lease kept && goes r.replaced.n)
   where
-    by : (b : Bool) → member n (cond b (r.1 ∷ kept) kept) ≡ ((b && (r.1 == n)) || member n kept)
+    by : (b : Bool) → member n (cond b (r.replaced.n ∷ kept) kept) ≡ ((b && (r.replaced.n == n)) || member n kept)
     by true = refl
     by false = refl
 
@@ -180,7 +181,7 @@ module _ (h : List Event) (t : ℕ) (versions goes : ℕ → Bool) (l : Legal h)
         ∙ ap (λ z. (m.intent.n == n) && z) (goes_is_went h t versions l le c e g q x m ls makes none found.0.0 found.1 ∙ sym (same m.intent.n found.0.1))))
         ∙ (λ i. (alike x.intent.n i && ((m.intent.n == n) && goes m.intent.n)) || alike n i)
         ∙ swapped (member x.intent.n b) (m.intent.n == n) (goes m.intent.n) (member n b)
-        ∙ sym (one_member goes b (x.intent.n, m.intent.n) n)
+        ∙ sym (one_member goes b (record { lease = x.intent.n; replaced = m.intent }) n)
 
     step : (ls : List Lease) → lease_of e.what (confirmed_intent e.what g) ≡ ls → IsSingle ls → member n (replaced_by versions a (owed g e.t) ls ++ a) ≡ member n (with_old_ones goes b (reverse (replaces (live g e.t) ls)))
     step [] makes s = alike n

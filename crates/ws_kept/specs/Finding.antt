@@ -1,23 +1,22 @@
 -- What each event, each pair and each renewal tells of what a compaction keeps (own).
 use Rattle.std.specs.Prelude.{ℕ, Bool, true, false, cond, ◌&&◌, List, [], ◌∷◌, Option, None, Some, find, filter, nat_lt, ◌==◌}
 use Rattle.std.specs.List.{list_any}
-use Rattle.std.specs.Option.{option_map}
 use Rattle.ws_model.specs.declared.event.Event.{Event}
-use Rattle.ws_model.specs.declared.event.Intent.{Intent}
 use Rattle.ws_model.specs.declared.event.What.{What}
 use Rattle.ws_model.specs.declared.event.What.TheVariants.{Asked, Confirmed, Fetched}
 use Rattle.ws_model.specs.declared.fate.Cause.TheVariants.{Replaced}
 use Rattle.ws_model.specs.Intents.{notices}
 use Rattle.ws_model.specs.Keep.{member}
+use Rattle.ws_model.specs.Leases.{live}
 use Rattle.ws_model.specs.Legal.{is_on_one, number_limit}
-use Rattle.ws_model.specs.Revocation.{live_lease_of}
 use Rattle.ws_model.specs.Versions.{latest}
+use Rattle.ws_compaction.specs.Least.{has_number}
 use Rattle.ws_fate.specs.declared.totals.Standing.{Standing}
 use Rattle.ws_fate.specs.declared.totals.Standing.TheVariants.{Ended}
 use Rattle.ws_fate.specs.Rows.{Rows as FateRows, standing_at}
 use Rattle.ws_fate.specs.Stands.{is_owed_at}
 use Rattle.ws_tries.specs.Rows.{Rows as TryRows}
-use Rattle.ws_core_tables.specs.Stands.{is_number}
+use Rattle.ws_kept.specs.declared.renewal.Renewal.{Renewal}
 
 -- the pairs by lease and version with what became of them
 abbrev pub Pairs : Type 0
@@ -39,17 +38,13 @@ gives_latest h v _ = false
 
 -- ---- leases that are live, or whose notices are owed
 
--- it has the number of the lease of its topic and callback that is live at t
-abbrev pub is_leased : List Event → ℕ → Intent → Bool
-is_leased h t i = is_number (option_map (λ l. l.intent.n) (live_lease_of h t i.topic i.callback)) i.n
-
 -- a notice is owed of the subscription of this number
 abbrev pub is_noticed : List Event → ℕ → Bool
 is_noticed h n = is_on_one (find (λ i. i.n == n) (notices h))
 
 -- the event asked for the lease n, which is live at t, or confirmed it, and a notice of it is owed
 abbrev pub gives_lease : List Event → ℕ → ℕ → What → Bool
-gives_lease h t n (Asked i) = (i.n == n) && is_leased h t i
+gives_lease h t n (Asked i) = (i.n == n) && has_number i.n (live h t)
 gives_lease h t n (Confirmed m sent) = (m == n) && is_noticed h m
 gives_lease h t n _ = false
 
@@ -82,10 +77,10 @@ abbrev pub goes_on_in : (ℕ → Bool) → FateRows → TryRows → ℕ → Bool
 goes_on_in versions fates rooms n = nat_lt n number_limit && hands_on versions fates rooms n
 
 -- with a new lease that is among them, the lease that it replaced, where that goes on
-abbrev pub with_one : (ℕ → Bool) → List ℕ → ℕ × ℕ → List ℕ
-with_one goes kept r = cond (member r.0 kept && goes r.1) (r.1 ∷ kept) kept
+abbrev pub with_one : (ℕ → Bool) → List ℕ → Renewal → List ℕ
+with_one goes kept r = cond (member r.lease kept && goes r.replaced.n) (r.replaced.n ∷ kept) kept
 
 -- so for each renewal, the oldest of which stands first and comes last
-abbrev pub with_old_ones : (ℕ → Bool) → List ℕ → List (ℕ × ℕ) → List ℕ
+abbrev pub with_old_ones : (ℕ → Bool) → List ℕ → List Renewal → List ℕ
 with_old_ones goes kept [] = kept
 with_old_ones goes kept (r ∷ rs) = with_one goes (with_old_ones goes kept rs) r

@@ -8,9 +8,9 @@ ghost use Rattle.ws_tries.specs.Stands.{HaveRooms};
 ghost use Rattle.ws_sweep.specs.Rows.{members};
 ghost use Rattle.ws_kept.specs.Stands.{AreKept, AreRenewed, IsLogged};
 
-use crate::Kept;
 use crate::leases::{first_kept, with_replaced};
 use crate::versions::{owed_versions, with_latest};
+use crate::{Kept, Renewal};
 use std::alloc::Global;
 use ws_core_tables::Tables;
 use ws_fate::Fates;
@@ -30,7 +30,7 @@ impl Kept {
         fates: &Fates,
         tries: &Tries,
         log: &Sweep<Event>,
-        renewals: &Sweep<(u64, u64)>,
+        renewals: &Sweep<Renewal>,
         t: u64,
     ) -> Result<Kept, NoMemory>
         requires in_time { t < 2 ^ 48 }

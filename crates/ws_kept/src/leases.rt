@@ -6,18 +6,20 @@ ghost use Rattle.std.specs.List.{list_any};
 ghost use Rattle.std.specs.Ordering.{nat_cmp};
 ghost use Rattle.ws_model.specs.declared.event.Event.{Event};
 ghost use Rattle.ws_model.specs.Keep.{member};
-ghost use Rattle.ws_model.specs.Leases.{is_on};
+ghost use Rattle.ws_model.specs.Leases.{is_on, live};
 ghost use Rattle.ws_model.specs.Legal.{Legal};
+ghost use Rattle.ws_compaction.specs.Least.{has_number};
 ghost use Rattle.ws_core_tables.specs.Stands.{StandsFor, is_number};
 ghost use Rattle.ws_sweep.specs.Rows.{members};
-ghost use Rattle.ws_kept.specs.Finding.{gives_lease, goes_on_in, hands_on, is_handed_on, is_leased, is_noticed, with_old_ones};
+ghost use Rattle.ws_kept.specs.Finding.{gives_lease, goes_on_in, hands_on, is_handed_on, is_noticed, with_old_ones};
 
+use crate::Renewal;
 use crate::numbers::add;
 use std::alloc::Global;
 use std::collections::BTreeSet;
 use ws_core_tables::Tables;
 use ws_fate::{Fates, Standing};
-use ws_model::{Cause, Event, Intent, Mode, NoMemory, What};
+use ws_model::{Cause, Event, Mode, NoMemory, What};
 use ws_sweep::Sweep;
 use ws_tries::Tries;
 
@@ -26,12 +28,12 @@ const NUMBER_LIMIT: u64 = 9_223_372_036_854_775_808;
 
 // ---- live leases, and those whose notices are owed
 
-/// Whether an intent has the number of the lease of its topic and callback that is live at `t`.
-fn is_leased(tables: &Tables, intent: &Intent, t: u64) -> bool
+/// Whether the lease of this number is live at `t`.
+fn is_live(tables: &Tables, lease: u64, t: u64) -> bool
     requires in_time { t < 2 ^ 48 }
-    ensures stands { (h : List Event) (since : ℕ) → StandsFor h since tables.now → Legal h → since ≤ t → result ≡ is_leased h t intent.now }
+    ensures stands { (h : List Event) (since : ℕ) → StandsFor h since tables.now → since ≤ t → result ≡ has_number lease (live h t) }
 {
-    tables.live_lease(intent.topic.as_slice(), intent.callback.as_slice(), t) == Some(intent.n)
+    tables.live_intent(lease, t).is_some()
 }
 
 /// Whether a mode asks for a subscription.
@@ -58,7 +60,7 @@ fn given_by(tables: &Tables, event: &Event, t: u64) -> Option<u64>
         (n : ℕ) → is_number result n ≡ gives_lease h t n event.now.what }
 {
     match &event.what {
-        What::Asked(intent) if is_leased(tables, intent, t) => Some(intent.n),
+        What::Asked(intent) if is_live(tables, intent.n, t) => Some(intent.n),
         What::Confirmed { n, .. } if is_noticed(tables, *n) => Some(*n),
         _ => None,
     }
@@ -137,13 +139,14 @@ fn add_replaced(
     fates: &Fates,
     tries: &Tries,
     versions: &BTreeSet<u64>,
-    renewal: (u64, u64),
+    renewal: &Renewal,
 ) -> Result<(), NoMemory>
     ensures { OnOk result ((n : ℕ) → contains nat_cmp leases.new n ≡
-        (contains nat_cmp leases.old n || ((contains nat_cmp leases.old renewal.0 && goes_on_in (contains nat_cmp versions.now) fates.now tries.now renewal.1) && (renewal.1 == n)))) }
+        (contains nat_cmp leases.old n || ((contains nat_cmp leases.old renewal.now.lease && goes_on_in (contains nat_cmp versions.now) fates.now tries.now renewal.now.replaced.n) && (renewal.now.replaced.n == n)))) }
 {
-    if leases.contains(&renewal.0) && goes_on(fates, tries, versions, renewal.1) {
-        leases.insert(renewal.1)?;
+    let old = renewal.replaced.n;
+    if leases.contains(&renewal.lease) && goes_on(fates, tries, versions, old) {
+        leases.insert(old)?;
     }
     Ok(())
 }
@@ -155,12 +158,12 @@ fn add_all_replaced(
     fates: &Fates,
     tries: &Tries,
     versions: &BTreeSet<u64>,
-    renewals: &[(u64, u64)],
+    renewals: &[Renewal],
 ) -> Result<(), NoMemory>
     ensures { OnOk result ((n : ℕ) → contains nat_cmp leases.new n ≡ member n (with_old_ones (goes_on_in (contains nat_cmp versions.now) fates.now tries.now) leases.old.keys renewals.now)) }
 {
     for at in (0..renewals.len()).rev() {
-        add_replaced(leases, fates, tries, versions, renewals[at])?;
+        add_replaced(leases, fates, tries, versions, &renewals[at])?;
     }
     Ok(())
 }
@@ -170,7 +173,7 @@ fn add_all_replaced(
 pub(crate) fn with_replaced(
     fates: &Fates,
     tries: &Tries,
-    renewals: &Sweep<(u64, u64)>,
+    renewals: &Sweep<Renewal>,
     versions: &BTreeSet<u64>,
     first: BTreeSet<u64>,
 ) -> Result<BTreeSet<u64>, NoMemory>

@@ -1,12 +1,12 @@
 // What is kept of a few leases, worked out by hand, and of nothing.
-use crate::Kept;
 use crate::leases::with_replaced;
+use crate::{Kept, Renewal};
 use std::alloc::Global;
 use std::collections::BTreeSet;
 use std::test::Fail;
 use ws_core_tables::Tables;
 use ws_fate::{Fates, Standing};
-use ws_model::{Cause, NoMemory};
+use ws_model::{Alg, Bytes, Cause, Intent, Mode, NoMemory};
 use ws_sweep::Sweep;
 use ws_tries::Tries;
 
@@ -97,11 +97,28 @@ fn rooms(alloc: Global) -> Result<Tries, NoMemory> {
     Ok(tries)
 }
 
+/// A lease that replaced another one, of whose texts nothing is asked here.
+fn renewal(alloc: Global, lease: u64, old: u64) -> Renewal {
+    Renewal {
+        lease,
+        replaced: Intent {
+            n: old,
+            mode: Mode::On,
+            topic: Bytes::from_vec(Vec::new(alloc)),
+            echo: Bytes::from_vec(Vec::new(alloc)),
+            callback: Bytes::from_vec(Vec::new(alloc)),
+            secret: Bytes::from_vec(Vec::new(alloc)),
+            granted: 3_600,
+            alg: Alg::Sha256,
+        },
+    }
+}
+
 /// The renewals, of which the first is looked at already.
-fn renewals(alloc: Global) -> Result<Sweep<(u64, u64)>, NoMemory> {
+fn renewals(alloc: Global) -> Result<Sweep<Renewal>, NoMemory> {
     let mut renewals = Sweep::empty(alloc);
-    for renewal in RENEWALS {
-        renewals.push(renewal)?;
+    for (lease, old) in RENEWALS {
+        renewals.push(renewal(alloc, lease, old))?;
     }
     if renewals.next().is_some() {
         renewals.keep_next();

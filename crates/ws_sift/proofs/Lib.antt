@@ -1,4 +1,7 @@
+mod Asking
+mod Mapped
+mod Older
+mod Turned
 pub mod Chosen
 pub mod Logged
-mod Mapped
 pub mod Restored

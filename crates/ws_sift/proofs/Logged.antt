@@ -1,17 +1,16 @@
 -- The log of a history, event by event.
-use Rattle.std.proofs.Common.{◌≡◌, ℕ, ◌≤◌, Bool, true, false, cond, not, ◌&&◌, List, [], ◌∷◌, ◌++◌, refl, ap, sym, ◌∙◌, subst, append_assoc}
+use Rattle.std.proofs.Common.{◌≡◌, ℕ, ◌≤◌, Bool, true, false, cond, not, ◌&&◌, List, [], ◌∷◌, ◌++◌, refl, ap, sym, ◌∙◌, append_assoc}
 use Rattle.std.specs.Prelude.{filter, map, reverse}
 use Rattle.std.specs.List.{AllByRecursion}
 use Rattle.std.proofs.lemmas.Bool.{and_parts, or_right}
-use Rattle.std.proofs.lemmas.List.{append-nil, reverse-append}
-use Rattle.std.proofs.lemmas.List.Elements.{filter-append}
+use Rattle.std.proofs.lemmas.List.{append-nil}
 use Rattle.std.proofs.Props.{props}
 use Rattle.ws_model.specs.declared.event.Event.{Event}
 use Rattle.ws_model.specs.declared.event.What.{What}
 use Rattle.ws_model.specs.declared.event.What.TheVariants.{Asked, Confirmed, Declined, Unheard, Barred, Noticed, Pinged, Fetched, Same, Unfetched, Pushed, Tally, Revoked}
 use Rattle.ws_model.specs.Keep.{keeps}
 use Rattle.ws_model.specs.Legal.{Legal}
-use Rattle.ws_laws.proofs.ListLaws.{all_append, all_filter, all_from, filter-filter}
+use Rattle.ws_laws.proofs.ListLaws.{all_filter, all_from, filter-filter}
 use Rattle.ws_compaction.proofs.DroppedEvents.{drops_event_later}
 use Rattle.ws_tries.specs.Stands.{is_any_push}
 use Rattle.ws_kept.specs.Part.{IsPart}
@@ -20,25 +19,7 @@ use Rattle.ws_kept.proofs.Part.{part_all, part_filter}
 use Rattle.ws_sift.specs.Sifted.{IsFoundIn, Sifts, is_kept_other}
 use Rattle.ws_sift.proofs.Mapped.{IsMapped, mapped}
 use Rattle.ws_sift.proofs.Restored.{all_found}
-
--- ---- lists turned round
-
-module _ {X : Type 0} where
-  reverse_cons : (x : X) (xs : List X) → reverse (x ∷ xs) ≡ reverse xs ++ x ∷ []
-  reverse_cons x xs = reverse-append (x ∷ []) xs
-
-  one_more : (x : X) (ys zs : List X) (b : Bool) → ys ≡ reverse zs → ys ++ cond b (x ∷ []) [] ≡ reverse (cond b (x ∷ zs) zs)
-  one_more x ys zs true e = ap (λ l. l ++ x ∷ []) e ∙ sym (reverse_cons x zs)
-  one_more x ys zs false e = append-nil ys ∙ e
-
-  filter-reverse : (p : X → Bool) (xs : List X) → filter p (reverse xs) ≡ reverse (filter p xs)
-  filter-reverse p [] = refl
-  filter-reverse p (x ∷ xs) =
-      ap (filter p) (reverse_cons x xs) ∙ filter-append p (reverse xs) (x ∷ []) ∙ one_more x _ (filter p xs) (p x) (filter-reverse p xs)
-
-  all_reverse : (P : X → Type 0) (xs : List X) → AllByRecursion P xs → AllByRecursion P (reverse xs)
-  all_reverse P [] a = tt
-  all_reverse P (x ∷ xs) a = subst (AllByRecursion P) (sym (reverse_cons x xs)) (all_append P (reverse xs) (x ∷ []) (all_reverse P xs a.1) (a.0, tt))
+use Rattle.ws_sift.proofs.Turned.{all_reverse, filter-reverse}
 
 -- ---- what is kept
 

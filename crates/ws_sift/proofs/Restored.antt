@@ -5,9 +5,10 @@ use Rattle.std.specs.List.{AllByRecursion, list_any}
 use Rattle.std.proofs.lemmas.Bool.{false≢true, ltb-true, or_cases}
 use Rattle.std.proofs.lemmas.Bool.Decides.{nat_tests}
 use Rattle.ws_model.specs.declared.event.Event.{Event}
+use Rattle.ws_model.specs.declared.event.Intent.{Intent}
 use Rattle.ws_model.specs.declared.event.Version.{Version}
 use Rattle.ws_model.specs.declared.event.What.{What}
-use Rattle.ws_model.specs.declared.event.What.TheVariants.{Fetched}
+use Rattle.ws_model.specs.declared.event.What.TheVariants.{Asked, Fetched}
 use Rattle.ws_model.specs.Keep.{keeps}
 use Rattle.ws_model.specs.Legal.{Legal, is_allowed}
 use Rattle.ws_model.specs.Moment.{fetched_number, last_version}
@@ -18,7 +19,8 @@ use Rattle.ws_laws.proofs.Known.{allowed, itself}
 use Rattle.ws_laws.proofs.ListLaws.{all_weaker}
 use Rattle.ws_tries.specs.Stands.{is_any_push}
 use Rattle.ws_kept.specs.Stands.{light, light_event}
-use Rattle.ws_sift.specs.Sifted.{IsFoundIn, is_kept_other, version_in}
+use Rattle.ws_sift.specs.Sifted.{IsFoundIn, intent_in, is_kept_other, version_in}
+use Rattle.ws_sift.proofs.Asking.{HasIntent, have_intents}
 
 -- ---- each number is of one version
 
@@ -33,8 +35,12 @@ within (e ∷ h) = (
   all_weaker (IsWithin (last_version h)) (IsWithin (last_version (e ∷ h))) (λ d f v k. let m : v.ver ≤ last_version h = f v k in omega arith) h (within h),
 )
 
+-- where a version was fetched, it is the one that the history has by its number
+abbrev pub HasVersion : List Event → Event → Type 0
+HasVersion h e = (v : Version) → e.what ≡ Fetched v → find (λ w. w.ver == v.ver) (versions h) ≡ Some v
+
 -- the newest is found by its number
-new_found : (e : Event) (h : List Event) → IsFoundIn (e ∷ h) e
+new_found : (e : Event) (h : List Event) → HasVersion (e ∷ h) e
 new_found e h v k =
     ap (λ w. find (λ w. w.ver == v.ver) (versions_of w ++ versions h)) k
     ∙ ap (λ b. cond b (Some v) (find (λ w. w.ver == v.ver) (versions h))) (itself v.ver)
@@ -52,22 +58,27 @@ both h [] P Q R f a b = tt
 both h (e ∷ es) P Q R f a b = (f e a.0 b.0, both h es P Q R f a.1 b.1)
 
 -- each version is the one that the history has by its number
-pub all_found : (h : List Event) → Legal h → AllByRecursion (IsFoundIn h) h
-all_found [] l = tt
-all_found (e ∷ h) l = (
+have_versions : (h : List Event) → Legal h → AllByRecursion (HasVersion h) h
+have_versions [] l = tt
+have_versions (e ∷ h) l = (
   new_found e h,
-  both h h (IsWithin (last_version h)) (IsFoundIn h) (IsFoundIn (e ∷ h)) (λ d w f v k. still_found e h e.what (allowed h e l.1) v (w v k) ∙ f v k) (within h) (all_found h l.0),
+  both h h (IsWithin (last_version h)) (HasVersion h) (HasVersion (e ∷ h)) (λ d w f v k. still_found e h e.what (allowed h e l.1) v (w v k) ∙ f v k) (within h) (have_versions h l.0),
 )
+
+-- and so is what was asked for
+pub all_found : (h : List Event) → Legal h → AllByRecursion (IsFoundIn h) h
+all_found h l = both h h (HasVersion h) (HasIntent h) (IsFoundIn h) (λ e v i. record { version = v; intent = i }) (have_versions h l) (have_intents h l)
 
 -- ---- events made whole again
 
-not_fetched : (w : What) → None ≡ version_in w → light w ≡ w
-not_fetched (Fetched v) k = absurd (cc)
-not_fetched _ k = refl
+not_light : (w : What) → None ≡ version_in w → None ≡ intent_in w → light w ≡ w
+not_light (Fetched v) k m = absurd (cc)
+not_light (Asked i) k m = absurd (cc)
+not_light _ k m = refl
 
--- what is no version is as it was
-pub as_it_was : (event e : Event) → event ≡ light_event e → None ≡ version_in e.what → event ≡ e
-as_it_was event e k n = k ∙ ap (λ w. record { serial = e.serial; t = e.t; what = w }) (not_fetched e.what n)
+-- what is no version and no request is as it was
+pub as_it_was : (event e : Event) → event ≡ light_event e → None ≡ version_in e.what → None ≡ intent_in e.what → event ≡ e
+as_it_was event e k n m = k ∙ ap (λ w. record { serial = e.serial; t = e.t; what = w }) (not_light e.what n m)
 
 fetched_so : (w : What) (v : Version) → Some v ≡ version_in w → Fetched v ≡ w
 fetched_so (Fetched x) v k = let same : v ≡ x = cc in ap Fetched same
@@ -76,6 +87,14 @@ fetched_so _ v k = absurd (cc)
 -- and what is one has it again
 pub whole_again : (event e : Event) (v : Version) → event ≡ light_event e → Some v ≡ version_in e.what → ◌≡◌ {A = Event} (record { serial = event.serial; t = event.t; what = Fetched v }) e
 whole_again event e v k f = ap (λ (d : Event). record { serial = d.serial; t = d.t; what = Fetched v }) k ∙ ap (λ w. record { serial = e.serial; t = e.t; what = w }) (fetched_so e.what v f)
+
+asked_so : (w : What) (i : Intent) → Some i ≡ intent_in w → Asked i ≡ w
+asked_so (Asked j) i k = let same : i ≡ j = cc in ap Asked same
+asked_so _ i k = absurd (cc)
+
+-- and so has what is one
+pub asked_again : (event e : Event) (i : Intent) → event ≡ light_event e → Some i ≡ intent_in e.what → ◌≡◌ {A = Event} (record { serial = event.serial; t = event.t; what = Asked i }) e
+asked_again event e i k f = ap (λ (d : Event). record { serial = d.serial; t = d.t; what = Asked i }) k ∙ ap (λ w. record { serial = e.serial; t = e.t; what = w }) (asked_so e.what i f)
 
 pub light_other : (w : What) → version_in (light w) ≡ None → None ≡ version_in w
 light_other (Fetched v) k = absurd (cc)
@@ -97,6 +116,6 @@ held_is h t e v o found like kept known newest owing = by e.what refl like
     by (Fetched x) k l =
         let n : v.ver ≡ x.ver = ap fetched_number l in
         let one : is_kept_version h t v.ver ≡ true = ap (is_kept_version h t) n ∙ sym (ap (λ w. not (is_any_push w) && keeps h t e w) k) ∙ kept in
-        one_found o v.ver h x known (ap (λ m. find (λ w. w.ver == m) (versions h)) n ∙ found x k)
+        one_found o v.ver h x known (ap (λ m. find (λ w. w.ver == m) (versions h)) n ∙ found.version x k)
         (elim (or_cases (list_any (λ w. w.ver == v.ver) (latest h)) (list_any (λ p. p.version.ver == v.ver) (owed h t)) one) [ inl a ↦ newest a | inr a ↦ owing a ])
     by _ k l = absurd (cc)

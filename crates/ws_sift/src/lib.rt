@@ -2,6 +2,7 @@
 #![tactic(auto)]
 
 mod choosing;
+mod replaced;
 mod restoring;
 mod sift;
 

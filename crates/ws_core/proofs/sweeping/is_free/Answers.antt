@@ -1,4 +1,4 @@
-use Rattle.std.proofs.Common.{◌≡◌, ◌||◌, Bool, ap, false, sym, subst, ◌∙◌, inl, inr}
+use Rattle.std.proofs.Common.{◌≡◌, ◌||◌, ap, false, sym, subst, ◌∙◌, inl, inr}
 use Rattle.std.proofs.lemmas.Bool.{not-true}
 use Rattle.ws_model.specs.declared.event.What.TheVariants.{Asked, Barred, Noticed, Pinged, Unfetched, Unheard}
 use Rattle.ws_model.specs.Intents.{notices, pending}

@@ -1,4 +1,4 @@
-use Rattle.std.proofs.Common.{◌≡◌, ◌++◌, sym, subst, ◌∙◌, true}
+use Rattle.std.proofs.Common.{◌≡◌, ◌++◌, sym, subst, true}
 use mathlib.Core.Logic.{∥∥₁_map}
 use Rattle.ws_kept.specs.Part.{IsPart}
 use Rattle.ws_kept.specs.Stands.{is_needed, log_of}

@@ -1,5 +1,7 @@
 use Rattle.std.proofs.Common.{◌≡◌, ◌≤◌, arith, refl, ap, ◌∙◌, ◌++◌, length, sym, subst}
+use Rattle.std.specs.Prelude.{map}
 use Rattle.ws_sweep.specs.Rows.{members}
+use Rattle.ws_kept.specs.Stands.{light_event}
 use Rattle.ws_core_tables.specs.Committing.{committed}
 use Rattle.ws_core.specs.Committing.{AllGoOn}
 use Rattle.ws_core.specs.Rows.{Rows}
@@ -25,4 +27,4 @@ returns-clause-ok c =
     c.sweep.ensures.stands (committed c.args.t c.args.whats.items h)
     (all_go_on c.args.t c.args.whats.items c.in_ok-events.events.items old mid c.requires.quiet c.in_ok-events.ensures.ok
     (λ g u r. c.in_ok-events.ensures.events g u r.ledger)
-    (c.add_all_reserved.ensures ∙ ap (λ es. es ++ c.in_ok-events.events.items) (λ j. c.in_ok-reserve.ensures.looked j ++ c.in_ok-reserve.ensures.left j)) refl refl h since s l le) l)
+    (c.add_all_reserved.ensures ∙ ap (λ es. es ++ map light_event c.in_ok-events.events.items) (λ j. c.in_ok-reserve.ensures.looked j ++ c.in_ok-reserve.ensures.left j)) refl refl h since s l le) l)

@@ -1,7 +1,5 @@
-use Rattle.std.proofs.Common.{◌≡◌, ◌++◌, List, [], ℕ, ap, sym, subst, ◌≤◌, arith}
-use Rattle.std.specs.Prelude.{reverse}
+use Rattle.std.proofs.Common.{◌++◌, [], ap, sym, subst, arith}
 use Rattle.std.proofs.lemmas.Bool.{false≢true}
-use Rattle.ws_model.specs.declared.event.Event.{Event}
 use Rattle.ws_tries.specs.Rows.{tries_at}
 use Rattle.ws_kept.specs.Part.IsPart.{IsEnd}
 use Rattle.ws_kept.specs.Stands.{AreRenewed, IsLogged}

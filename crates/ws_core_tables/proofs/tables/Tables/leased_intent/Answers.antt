@@ -9,20 +9,11 @@ use Rattle.ws_core_tables.specs.Stands.{StandsFor}
 use Rattle.ws_core_tables.proofs.Reasons.{time_kept}
 use Rattle.ws_core_tables.proofs.tables.Tables.leased_intent.Goals as goal
 
-pub returns-in-Some : goal.returns-in-Some
-returns-in-Some c =
+pub returns : goal.returns
+returns c =
     record {
       stands = λ h since s l k.
           let inside = subst (StandsFor h since) (sym c.self.view_is) s in
           let now : c.min.result ≡ time h = c.min.ensures ∙ ap (λ (m : Numbers). min m.all.time 281474976710655) inside.numbers ∙ time_kept h l in
-          ap (option_map (λ (x : Lease). x.intent)) (c.in-Some.ensures.stands h since inside.leases (subst (λ t. since ≤ t) (sym now) k) ∙ ap (λ t. find (λ x. x.intent.n == c.args.n) (live h t)) now);
-    }
-
-pub returns-in-None : goal.returns-in-None
-returns-in-None c =
-    record {
-      stands = λ h since s l k.
-          let inside = subst (StandsFor h since) (sym c.self.view_is) s in
-          let now : c.min.result ≡ time h = c.min.ensures ∙ ap (λ (m : Numbers). min m.all.time 281474976710655) inside.numbers ∙ time_kept h l in
-          ap (option_map (λ (x : Lease). x.intent)) (c.in-None.ensures.stands h since inside.leases (subst (λ t. since ≤ t) (sym now) k) ∙ ap (λ t. find (λ x. x.intent.n == c.args.n) (live h t)) now);
+          c.live_intent.ensures.stands h since s (subst (λ t. since ≤ t) (sym now) k) ∙ ap (λ t. option_map (λ (x : Lease). x.intent) (find (λ x. x.intent.n == c.args.n) (live h t))) now;
     }

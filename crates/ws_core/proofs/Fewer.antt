@@ -3,7 +3,7 @@ use Rattle.std.proofs.Common.{◌≡◌, ℕ, ◌≤◌, true, not, ◌||◌, Li
 use Rattle.std.specs.Prelude.{filter, find, is_none, reverse, Option, Some, None}
 use Rattle.std.specs.List.{AllByRecursion}
 use Rattle.std.proofs.lemmas.Bool.{or_cases, or_left, or_right}
-use Rattle.std.proofs.lemmas.List.{append_assoc, reverse-append}
+use Rattle.std.proofs.lemmas.List.{append_assoc}
 use mathlib.Core.Logic.{∥∥₁_map}
 use Rattle.ws_model.specs.declared.event.Event.{Event}
 use Rattle.ws_model.specs.declared.event.What.{What}
@@ -21,6 +21,7 @@ use Rattle.ws_compaction.proofs.DroppedEvents.{drops_event, drops_event_later}
 use Rattle.ws_tries.specs.Stands.{is_any_push}
 use Rattle.ws_kept.specs.declared.renewal.Renewal.{Renewal}
 use Rattle.ws_kept.specs.Stands.{IsLogged, is_needed, is_tally, light, light_event, log_of, other_events, renewals, replaces, with_old}
+use Rattle.ws_kept.proofs.Lists.{all_reverse}
 use Rattle.ws_kept.proofs.Part.{part_of_fewer}
 
 -- ---- lists
@@ -33,10 +34,6 @@ module _ {X : Type 0} where
   from_places : (P : X → Type 0) (c g all : List X) → all ≡ c ++ g → ((c g : List X) (x : X) → all ≡ c ++ x ∷ g → P x) → AllByRecursion P g
   from_places P c [] all k f = tt
   from_places P c (x ∷ g) all k f = (f c g x k, from_places P (c ++ x ∷ []) g all (k ∙ moved c x g) f)
-
-  all_reverse : (P : X → Type 0) (xs : List X) → AllByRecursion P xs → AllByRecursion P (reverse xs)
-  all_reverse P [] a = tt
-  all_reverse P (x ∷ xs) a = subst (AllByRecursion P) (sym (reverse-append (x ∷ []) xs)) (all_append P (reverse xs) (x ∷ []) (all_reverse P xs a.1) (a.0, tt))
 
 -- ---- the log
 

@@ -8,8 +8,9 @@ use Rattle.ws_model.specs.declared.event.Event.{Event}
 use Rattle.ws_kept.specs.declared.renewal.Renewal.{Renewal}
 use Rattle.ws_ledger.specs.Rows.{Rows as LedgerRows}
 use Rattle.ws_sweep.specs.Rows.{Rows as SweepRows, members}
-use Rattle.ws_tries.specs.Rows.{Rows as TryRows, tries_at}
+use Rattle.ws_tries.specs.Rows.{Rows as TryRows}
 use Rattle.ws_core.specs.GivenBack.{IsGone, RoomsAreGone}
+use Rattle.ws_core.specs.Passing.{StayGone}
 use Rattle.ws_core.specs.Rows.{Rows}
 
 -- a member that is put behind the others
@@ -17,9 +18,9 @@ pub pushed : {X : Type 0} (old mid new : SweepRows X) (x : X) → mid.looked ≡
 pushed old mid new x a b c d = (λ j. (c ∙ a) j ++ (d ∙ ap (λ xs. xs ++ x ∷ []) b) j) ∙ sym (append_assoc old.looked old.left (x ∷ []))
 
 -- rooms that are gone stay so
-pub gone_swept : (e : Event) (old last new : Rows) → RoomsAreGone e old last → new.ledger ≡ last.ledger → new.tries ≡ last.tries → RoomsAreGone e old new
-gone_swept e old last new gone same_ledger same_tries h since s l le v n of is_gone =
-    ap (tries_at v n) same_tries ∙ gone h since s l le v n of (subst (λ (r : LedgerRows). IsGone (e ∷ h) e.t r.fates n) same_ledger is_gone)
+pub gone_swept : (e : Event) (old last new : Rows) → RoomsAreGone e old last → new.ledger ≡ last.ledger → StayGone last.tries new.tries → RoomsAreGone e old new
+gone_swept e old last new gone same_ledger none h since s l le v n of is_gone =
+    none v n (gone h since s l le v n of (subst (λ (r : LedgerRows). IsGone (e ∷ h) e.t r.fates n) same_ledger is_gone))
 
 -- where nothing was done but room taken
 pub as_before : (old : Rows) {ledger : LedgerRows} {tries : TryRows} (log : SweepRows Event) (renewals : SweepRows Renewal) (held : SweepRows Event) (had : SweepRows Renewal)

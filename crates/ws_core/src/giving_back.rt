@@ -187,7 +187,7 @@ pub(crate) fn is_without_heirs(ledger: &Ledger, tries: &Tries, lease: u64, t: u6
 
 /// Whether a lease isn't live at `t`, and no notice of it is owed. Where `t` isn't the greatest time so far it
 /// isn't known, and the answer is no: so it is while a log is read again that a compaction has shortened.
-fn is_over(tables: &Tables, lease: u64, t: u64) -> bool
+pub(crate) fn is_over(tables: &Tables, lease: u64, t: u64) -> bool
     ensures stands { (h : List Event) (since : ℕ) → TablesStand h since tables.now → Legal h → since ≤ t → result ≡ is_over h t lease }
 {
     if tables.time() != t {

@@ -13,6 +13,7 @@ mod keeping;
 mod looking;
 mod passing;
 mod renewing;
+mod round;
 mod settling;
 mod sweeping;
 #[cfg(test)]

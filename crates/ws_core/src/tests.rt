@@ -57,8 +57,8 @@ const STEPS: [(Step, u64); 30] = [
     (Step::Confirmed(6), 2),
     (Step::Pushed(5, 6, How::Done), 2),
     (Step::Asked(7, Mode::On, b'd'), 2),
-    // Nothing goes over from lease 6 to lease 7.
-    (Step::Confirmed(7), 1),
+    // Nothing goes over from lease 6 to lease 7, so that lease 5 isn't kept any more either.
+    (Step::Confirmed(7), 0),
     // Version 6 is owed to lease 7.
     (Step::Fetched(6), 1),
 ];
@@ -67,6 +67,24 @@ const STEPS: [(Step, u64); 30] = [
 const NOW: u64 = 1_000;
 
 const EXPIRY: u64 = 865_000;
+
+/// When each step happens, and how many pairs have a room after it.
+const EXPIRING: [(u64, Step, u64); 11] = [
+    (1_000, Step::Asked(1, Mode::On, b'a'), 0),
+    (1_000, Step::Confirmed(1), 0),
+    (500_000, Step::Asked(2, Mode::On, b'b'), 0),
+    (500_000, Step::Confirmed(2), 0),
+    (600_000, Step::Fetched(1), 2),
+    (600_000, Step::Pushed(1, 2, How::Done), 2),
+    // Version 1 is owed to lease 1.
+    (600_000, Step::Fetched(2), 4),
+    (600_000, Step::Pushed(2, 2, How::Done), 4),
+    // Lease 1 has expired, and so version 1 is owed to nobody.
+    (865_000, Step::Asked(3, Mode::On, b'c'), 2),
+    (865_000, Step::Asked(4, Mode::On, b'd'), 2),
+    // The round has come by. Version 2 is the latest.
+    (865_000, Step::Asked(5, Mode::On, b'e'), 1),
+];
 
 fn asked(alloc: Global, n: u64, mode: Mode, place: u8) -> Result<What, NoMemory> {
     let mut callback = b"http://sub.example/".to_vec(alloc)?;
@@ -94,10 +112,10 @@ fn fetched(alloc: Global, ver: u64) -> Result<What, NoMemory> {
     }))
 }
 
-fn what(alloc: Global, step: Step) -> Result<What, NoMemory> {
+fn what(alloc: Global, step: Step, t: u64) -> Result<What, NoMemory> {
     match step {
         Step::Asked(n, mode, place) => asked(alloc, n, mode, place),
-        Step::Confirmed(n) => Ok(What::Confirmed { n, sent: NOW }),
+        Step::Confirmed(n) => Ok(What::Confirmed { n, sent: t }),
         Step::Fetched(ver) => fetched(alloc, ver),
         Step::Pushed(ver, lease, how) => Ok(What::Pushed { ver, lease, how }),
         Step::Revoked(n) => Ok(What::Revoked {
@@ -117,7 +135,7 @@ fn rooms_after(alloc: Global, core: &mut Core, step: Step, t: u64) -> Result<Opt
     let event = Event {
         serial,
         t,
-        what: what(alloc, step)?,
+        what: what(alloc, step, t)?,
     };
     if !core.accepts(&event)? {
         return Ok(None);
@@ -139,5 +157,15 @@ fn rooms_are_given_back(rt: HostRuntime) -> Result<(), Fail> {
     }
     let next = Step::Asked(8, Mode::On, b'e');
     assert_eq!(rt; rooms_after(alloc, &mut core, next, EXPIRY)?, Some(0));
+    Ok(())
+}
+
+#[test]
+fn rooms_are_gone_over(rt: HostRuntime) -> Result<(), Fail> {
+    let alloc = rt.alloc();
+    let mut core = Core::empty(alloc);
+    for (t, step, rooms) in &EXPIRING {
+        assert_eq!(rt; rooms_after(alloc, &mut core, *step, *t)?, Some(*rooms));
+    }
     Ok(())
 }

@@ -3,6 +3,7 @@ ghost use Rattle.std.specs.Prelude.{[]};
 ghost use Rattle.ws_core.specs.Follows.{HasHistory};
 ghost use Rattle.ws_core.specs.Stands.{StandsFor};
 
+use crate::round::Round;
 use std::alloc::Global;
 use std::marker::Model;
 use ws_kept::Renewal;
@@ -24,6 +25,8 @@ pub struct Core {
     /// Each new lease with what was asked for the lease that it replaced, the oldest first, in the same way.
     pub(crate) renewals: Sweep<Renewal>,
     pub(crate) tries: Tries,
+    /// Where the round over the rooms stands.
+    pub(crate) round: Round,
 }
 
 impl Model for Core {
@@ -47,6 +50,7 @@ impl Core {
             log: Sweep::empty(alloc),
             renewals: Sweep::empty(alloc),
             tries: Tries::empty(alloc),
+            round: Round::at(0),
         }
     }
 }

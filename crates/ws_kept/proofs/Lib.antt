@@ -2,7 +2,7 @@ pub mod Fewer
 mod First
 pub mod GoneOver
 mod Latest
-mod Lists
+pub mod Lists
 pub mod Needed
 mod Once
 pub mod Owed

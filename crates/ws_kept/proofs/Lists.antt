@@ -1,5 +1,5 @@
 -- Tests over lists, sets of numbers, and the log of a history.
-use Rattle.std.proofs.Common.{◌≡◌, ℕ, ◌+◌, ◌≤◌, ◌<◌, Bool, true, false, not, ◌&&◌, ◌||◌, List, [], ◌∷◌, ◌++◌, refl, ap, sym, ◌∙◌, arith, drop, length, get_or}
+use Rattle.std.proofs.Common.{◌≡◌, ℕ, ◌+◌, ◌≤◌, ◌<◌, Bool, true, false, not, ◌&&◌, ◌||◌, List, [], ◌∷◌, ◌++◌, refl, ap, sym, ◌∙◌, subst, arith, drop, length, get_or}
 use Rattle.std.specs.Prelude.{filter, reverse, ◌==◌}
 use Rattle.std.specs.List.{AllByRecursion, list_any}
 use Rattle.std.specs.BTreeMap.{is_at}
@@ -15,7 +15,7 @@ use Rattle.ws_model.specs.declared.event.What.{What}
 use Rattle.ws_model.specs.History.{has}
 use Rattle.ws_model.specs.Keep.{member}
 use Rattle.ws_laws.proofs.Follow.{any_map}
-use Rattle.ws_laws.proofs.ListLaws.{all_from, all_weaker, any_then}
+use Rattle.ws_laws.proofs.ListLaws.{all_append, all_from, all_weaker, any_then}
 use Rattle.ws_lease.proofs.SortedEntries.{any_filter}
 use Rattle.ws_tries.specs.Stands.{is_any_push}
 use Rattle.ws_kept.specs.Stands.{light, light_event, log_of, other_events}
@@ -47,6 +47,10 @@ any_reverse q (x ∷ xs) =
     ∙ list_any-append q (reverse xs) (x ∷ [])
     ∙ (λ i. any_reverse q xs i || or-false (q x) i)
     ∙ or_comm (list_any q xs) (q x)
+
+pub all_reverse : {X : Type 0} (P : X → Type 0) (xs : List X) → AllByRecursion P xs → AllByRecursion P (reverse xs)
+all_reverse P [] a = tt
+all_reverse P (x ∷ xs) a = subst (AllByRecursion P) (sym (reverse-append (x ∷ []) xs)) (all_append P (reverse xs) (x ∷ []) (all_reverse P xs a.1) (a.0, tt))
 
 -- ---- a set with one more number
 

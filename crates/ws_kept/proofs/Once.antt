@@ -78,10 +78,10 @@ ended_by e g z a k = by (first_end g z) (end_by e.what (confirmed_intent e.what 
     by None None k = absurd (false≢true (sym k))
 
 -- what makes a lease ends those of its topic and callback
-abbrev Ends : What → Option Intent → Lease → Type 0
+abbrev pub Ends : What → Option Intent → Lease → Type 0
 Ends w o x = (z : Lease) → same_pair x.intent z.intent ≡ true → is_none (end_by w o z) ≡ false
 
-ends_by : (w : What) (o : Option Intent) → AllByRecursion (Ends w o) (lease_of w o)
+pub ends_by : (w : What) (o : Option Intent) → AllByRecursion (Ends w o) (lease_of w o)
 ends_by (Confirmed n sent) None = tt
 ends_by (Confirmed n sent) (Some i) = one (is_on i.mode)
   where
@@ -105,7 +105,7 @@ single (Confirmed n sent) (Some i) = one (is_on i.mode)
 single _ o = tt
 
 -- once it ended, it lives no more
-not_twice : (d : List Event) (f : Event) (k : List Event) (u : ℕ) (z y : Lease) → Legal (d ++ f ∷ k) → last_time (d ++ f ∷ k) ≤ u → Lives k f.t z → is_none (end_by f.what (confirmed_intent f.what k) z) ≡ false → Lives (d ++ f ∷ k) u y → z.intent.n ≡ y.intent.n → ⊥
+pub not_twice : (d : List Event) (f : Event) (k : List Event) (u : ℕ) (z y : Lease) → Legal (d ++ f ∷ k) → last_time (d ++ f ∷ k) ≤ u → Lives k f.t z → is_none (end_by f.what (confirmed_intent f.what k) z) ≡ false → Lives (d ++ f ∷ k) u y → z.intent.n ≡ y.intent.n → ⊥
 not_twice d f k u z y l le old ends new same =
     let next = told_behind d (f ∷ k) z l (has_later f k (is_confirmed z.intent.n) old.confirmed) (skipped z.intent.n (lease_of f.what (confirmed_intent f.what k)) (leases k) (others f k (legal_behind d (f ∷ k) l).1 z.intent.n old.confirmed) ∙ old.told) in
     let one : Some z ≡ Some y = sym next.1 ∙ ap (λ n. find (is_numbered n) (leases (d ++ f ∷ k))) same ∙ new.told in
@@ -117,7 +117,7 @@ not_twice d f k u z y l le old ends new same =
 first_is : (d e : Event) (g h : List Event) → d ∷ g ≡ e ∷ h → (d ≡ e) × (g ≡ h)
 first_is d e g h k = (cc, cc)
 
-places : (c d : List Event) (e f : Event) (g k : List Event) → c ++ e ∷ g ≡ d ++ f ∷ k → ((e ≡ f) × (g ≡ k)) ⊎ (((y : List Event) × (g ≡ y ++ f ∷ k)) ⊎ ((y : List Event) × (k ≡ y ++ e ∷ g)))
+pub places : (c d : List Event) (e f : Event) (g k : List Event) → c ++ e ∷ g ≡ d ++ f ∷ k → ((e ≡ f) × (g ≡ k)) ⊎ (((y : List Event) × (g ≡ y ++ f ∷ k)) ⊎ ((y : List Event) × (k ≡ y ++ e ∷ g)))
 places [] [] e f g k q = inl (first_is e f g k q)
 places [] (z ∷ d) e f g k q = inr (inl (d, (first_is e z g (d ++ f ∷ k) q).1))
 places (z ∷ c) [] e f g k q = inr (inr (c, sym (first_is z f (c ++ e ∷ g) k q).1))

@@ -13,4 +13,4 @@ mod versions;
 pub use kept::Kept;
 pub use leases::is_handed_on;
 pub use renewal::Renewal;
-pub use versions::is_latest;
+pub use versions::{is_kept, is_latest};

@@ -1,11 +1,12 @@
 // The versions that a compaction keeps: those that are owed, and the latest of each topic.
-ghost use Rattle.std.specs.Prelude.{◌≡◌, ◌≤◌, ◌==◌, ◌||◌, ℕ, List, IfOk, OnOk};
+ghost use Rattle.std.specs.Prelude.{◌≡◌, ◌≤◌, ◌<◌, ◌^◌, ◌==◌, ◌||◌, ℕ, List, IfOk, OnOk};
 ghost use Rattle.std.specs.BTreeSet.{contains};
 ghost use Rattle.std.specs.List.{list_any};
 ghost use Rattle.std.specs.Ordering.{nat_cmp};
 ghost use Rattle.ws_model.specs.declared.event.Event.{Event};
 ghost use Rattle.ws_model.specs.Legal.{Legal};
 ghost use Rattle.ws_model.specs.Pairs.{owed};
+ghost use Rattle.ws_model.specs.Verdict.{is_kept_version};
 ghost use Rattle.ws_model.specs.Versions.{is_version, latest_of};
 ghost use Rattle.ws_tries.specs.Stands.{HaveRooms};
 ghost use Rattle.ws_sweep.specs.Rows.{members};
@@ -67,6 +68,28 @@ pub fn is_latest(tables: &Tables, ver: u64) -> bool
         Some(version) => is_latest_of(tables, version.topic.as_slice(), ver),
         None => false,
     }
+}
+
+/// Whether a pair of a version that has a room is owed at `t`.
+fn has_owed(tables: &Tables, tries: &Tries, ver: u64, t: u64) -> bool
+    requires low { ver < 2 ^ 63 }
+    ensures stands { (h : List Event) (since : ℕ) → StandsFor h since tables.now → since ≤ t → result ≡ list_any (λ e. owes h t ver e.0) tries.now }
+{
+    for (pair, _) in tries.rooms_of(ver) {
+        if tables.is_owed(pair.0, pair.1, t) {
+            return true;
+        }
+    }
+    false
+}
+
+/// Whether a compaction at `t`, in seconds, keeps a version: it is the latest of its topic, or owed to a lease. It
+/// goes over the pairs of the version that have rooms, up to the first that is owed, and takes no memory.
+pub fn is_kept(tables: &Tables, tries: &Tries, ver: u64, t: u64) -> bool
+    requires low { ver < 2 ^ 63 }
+    ensures stands { (h : List Event) (since : ℕ) → StandsFor h since tables.now → HaveRooms h t tries.now → Legal h → since ≤ t → result ≡ is_kept_version h t ver }
+{
+    is_latest(tables, ver) || has_owed(tables, tries, ver, t)
 }
 
 /// The version that an event fetched, where it is the latest of its topic.

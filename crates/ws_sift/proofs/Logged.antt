@@ -15,11 +15,12 @@ use Rattle.ws_compaction.proofs.DroppedEvents.{drops_event_later}
 use Rattle.ws_tries.specs.Stands.{is_any_push}
 use Rattle.ws_kept.specs.Part.{IsPart}
 use Rattle.ws_kept.specs.Stands.{is_needed, is_tally, light, light_event, log_of, other_events}
+use Rattle.ws_kept.proofs.Lists.{all_reverse}
 use Rattle.ws_kept.proofs.Part.{part_all, part_filter}
 use Rattle.ws_sift.specs.Sifted.{IsFoundIn, Sifts, is_kept_other}
 use Rattle.ws_sift.proofs.Mapped.{IsMapped, mapped}
 use Rattle.ws_sift.proofs.Restored.{all_found}
-use Rattle.ws_sift.proofs.Turned.{all_reverse, filter-reverse}
+use Rattle.ws_sift.proofs.Turned.{filter-reverse}
 
 -- ---- what is kept
 

@@ -23,11 +23,11 @@ use Rattle.ws_compaction.proofs.Dropped.{drops_lease_later}
 use Rattle.ws_kept.specs.declared.renewal.Renewal.{Renewal}
 use Rattle.ws_kept.specs.Part.{IsPart}
 use Rattle.ws_kept.specs.Stands.{AreRenewed, renewals, replaces, with_old}
+use Rattle.ws_kept.proofs.Lists.{all_reverse}
 use Rattle.ws_kept.proofs.Part.{part_all, part_any}
 use Rattle.ws_kept.proofs.Replaced.{kept_is}
 use Rattle.ws_sift.specs.Sifted.{AreReplaced, replaced_in}
 use Rattle.ws_sift.proofs.Asking.{IsAsked, low, still_asked}
-use Rattle.ws_sift.proofs.Turned.{all_reverse}
 
 -- ---- in parts
 

@@ -1,10 +1,8 @@
 -- Lists turned round.
-use Rattle.std.proofs.Common.{◌≡◌, Bool, true, false, cond, List, [], ◌∷◌, ◌++◌, refl, ap, sym, ◌∙◌, subst}
+use Rattle.std.proofs.Common.{◌≡◌, Bool, true, false, cond, List, [], ◌∷◌, ◌++◌, refl, ap, sym, ◌∙◌}
 use Rattle.std.specs.Prelude.{filter, reverse}
-use Rattle.std.specs.List.{AllByRecursion}
 use Rattle.std.proofs.lemmas.List.{append-nil, reverse-append}
 use Rattle.std.proofs.lemmas.List.Elements.{filter-append}
-use Rattle.ws_laws.proofs.ListLaws.{all_append}
 
 module _ {X : Type 0} where
   reverse_cons : (x : X) (xs : List X) → reverse (x ∷ xs) ≡ reverse xs ++ x ∷ []
@@ -18,7 +16,3 @@ module _ {X : Type 0} where
   filter-reverse p [] = refl
   filter-reverse p (x ∷ xs) =
       ap (filter p) (reverse_cons x xs) ∙ filter-append p (reverse xs) (x ∷ []) ∙ one_more x _ (filter p xs) (p x) (filter-reverse p xs)
-
-  pub all_reverse : (P : X → Type 0) (xs : List X) → AllByRecursion P xs → AllByRecursion P (reverse xs)
-  all_reverse P [] a = tt
-  all_reverse P (x ∷ xs) a = subst (AllByRecursion P) (sym (reverse_cons x xs)) (all_append P (reverse xs) (x ∷ []) (all_reverse P xs a.1) (a.0, tt))

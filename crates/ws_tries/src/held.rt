@@ -3,7 +3,7 @@ ghost use Rattle.std.specs.Prelude.{◌≡◌, ◌<◌, ◌≤◌, ◌^◌, ◌�
 ghost use Rattle.std.specs.Option.{IsSomeAnd};
 ghost use Rattle.std.specs.List.Sorted.{IsStrictlySortedBy};
 ghost use Rattle.std.specs.Map.{keys_of};
-ghost use Rattle.ws_tries.specs.Rows.{is_here, pair_order, tries_at};
+ghost use Rattle.ws_tries.specs.Rows.{is_here, next_pair, pair_order, tries_at};
 
 use crate::{Room, Try};
 use std::alloc::Global;
@@ -91,6 +91,16 @@ impl Held {
     {
         let pair = self.by_lease.range((lease, from)..).next()?;
         if pair.0 == lease { Some(pair.1) } else { None }
+    }
+
+    /// The first pair that has a room, by version and lease, from one on.
+    pub(crate) fn next_pair(&self, ver: u64, lease: u64) -> Option<(u64, u64)>
+        ensures { result ≡ next_pair ver lease self.now }
+    {
+        match self.by_pair.range((ver, lease)..).next() {
+            Some((pair, _)) => Some(*pair),
+            None => None,
+        }
     }
 
     /// Gives a pair a room without tries. At an error all is as before.

@@ -4,7 +4,7 @@ ghost use Rattle.std.specs.Option.{IsSomeAnd};
 ghost use Rattle.std.specs.List.Sorted.{IsStrictlySortedBy};
 ghost use Rattle.std.specs.Map.{keys_of};
 ghost use Rattle.ws_model.specs.declared.event.Event.{Event};
-ghost use Rattle.ws_tries.specs.Rows.{is_here, is_listed, pair_order, tries_at};
+ghost use Rattle.ws_tries.specs.Rows.{is_here, is_listed, next_pair, pair_order, tries_at};
 ghost use Rattle.ws_tries.specs.Stands.{StandsFor};
 
 use crate::held::Held;
@@ -119,6 +119,13 @@ impl Tries {
         ensures none { IfNone result ((w : ℕ) → from ≤ w → tries_at w lease self.now ≡ None) }
     {
         self.held.next_version(lease, from)
+    }
+
+    /// The first pair that has a room, by version and lease, from this one on. It takes no memory.
+    pub fn next_pair(&self, ver: u64, lease: u64) -> Option<(u64, u64)>
+        ensures { result ≡ next_pair ver lease self.now }
+    {
+        self.held.next_pair(ver, lease)
     }
 
     /// Takes the rooms of all pairs of a lease away, with their tries. It takes no memory. A lease

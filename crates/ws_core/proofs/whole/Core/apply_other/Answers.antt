@@ -46,7 +46,7 @@ returns c =
       ok = subst (λ (r : Rows). GoesOn c.args.event.now r c.sweep.new.self) c.self.view_is
           (λ h since s l le. c.sweep.ensures.stands (c.args.event.now ∷ h) (goes_past c.args.event.now old rest c.let_go.new.ledger c.let_go.new.tries left c.let_go.ensures.stands h since s l le) l);
       gone = subst (λ (r : Rows). RoomsAreGone c.args.event.now r c.sweep.new.self) c.self.view_is
-          (gone_swept c.args.event.now old last c.sweep.new.self (gone_past c.args.event.now old rest c.let_go.new.ledger c.let_go.new.tries gone c.let_go.ensures.fates c.let_go.ensures.none) c.sweep.ensures.ledger c.sweep.ensures.tries);
+          (gone_swept c.args.event.now old last c.sweep.new.self (gone_past c.args.event.now old rest c.let_go.new.ledger c.let_go.new.tries gone c.let_go.ensures.fates c.let_go.ensures.none) c.sweep.ensures.ledger c.sweep.ensures.none);
       unexpired = subst (λ (r : LedgerRows). AreUnexpired c.args.event.now.t r.tables.leases) (sym c.sweep.ensures.ledger) c.let_go.ensures.unexpired;
       err = tt;
     }
